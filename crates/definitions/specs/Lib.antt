@@ -1,0 +1,2 @@
+pub mod LinkNumbers
+pub mod Numbers

@@ -1,0 +1,3 @@
+pub mod Memory
+pub mod Outboxes
+pub mod Sending

@@ -1,0 +1,4 @@
+pub mod Distinct
+pub mod Keys
+pub mod Links
+pub mod Rows

@@ -1,0 +1,4 @@
+pub mod Keys
+pub mod Meaning
+pub mod Reply
+pub mod Rows
