@@ -4,12 +4,14 @@
 //!
 //! - `tags` and `numbers`: names, tags, link numbers and delivery states
 //! - `queues`: queues of no slot and of one, full ones, and the turn of the ring
-//! - `tables`: the table keeper
+//! - `tables` and `marks`: the two keepers
 //! - `words` and `edits`: lines, and edits as lines
 #[cfg(test)]
 mod edits;
 #[cfg(test)]
 mod made;
+#[cfg(test)]
+mod marks;
 #[cfg(test)]
 mod numbers;
 #[cfg(test)]

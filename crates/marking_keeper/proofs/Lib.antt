@@ -1,0 +1,4 @@
+pub mod Firsts
+pub mod Loops
+pub mod Moves
+pub mod Naming
