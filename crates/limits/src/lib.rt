@@ -4,7 +4,7 @@
 //!
 //! - `tags` and `numbers`: names, tags, link numbers and delivery states
 //! - `queues`: queues of no slot and of one, full ones, and the turn of the ring
-//! - `tables` and `marks`: the two keepers
+//! - `tables`, `marks` and `places`: the three keepers
 //! - `words` and `edits`: lines, and edits as lines
 #[cfg(test)]
 mod edits;
@@ -14,6 +14,8 @@ mod made;
 mod marks;
 #[cfg(test)]
 mod numbers;
+#[cfg(test)]
+mod places;
 #[cfg(test)]
 mod queues;
 #[cfg(test)]
