@@ -3,7 +3,7 @@
 ghost use mathlib.Core.Path.{_≡_};
 ghost use Rattle.definitions.specs.Numbers.{stateNumber, terminal};
 
-/// A handle as a frame carries it (Part 2, 2.8.5).
+/// A handle as a frame carries it (Part 2, 2.8.4).
 #[derive(Clone, Copy)]
 pub struct Handle(pub u32);
 
@@ -15,10 +15,10 @@ pub struct OutputHandle(pub u32);
 #[derive(Clone, Copy)]
 pub struct InputHandle(pub u32);
 
-/// The id of a transfer (Part 2, 2.8.10).
+/// The id of a transfer (Part 2, 2.8.9).
 pub type TransferNumber = u32;
 
-/// The id of a delivery (Part 2, 2.8.9).
+/// The id of a delivery (Part 2, 2.8.8).
 pub type DeliveryNumber = u32;
 
 /// A count that goes round (Part 2, 2.8.10).
