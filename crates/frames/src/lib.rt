@@ -8,6 +8,9 @@
 //! - [`session`]: a frame of a session, and the payload of a transfer.
 //! - [`link`]: what belongs to one link: the link's part of a flow, and what tells a link of its attach
 //!   or detach.
+
+#![tactic(auto)]
+
 pub mod link;
 pub mod performatives;
 pub mod session;
