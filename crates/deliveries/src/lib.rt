@@ -4,5 +4,8 @@
 //! - [`backlog`]: the transfers that wait, in the order in which they were submitted.
 //!
 //! These are the records alone; what they are for is in `specs/Backlogs.antt`.
+
+#![tactic(auto)]
+
 pub mod backlog;
 pub mod book;

@@ -6,6 +6,9 @@
 //! - [`unreadable`]: why a line is no edit.
 //! - [`fields`]: the four fields of a line.
 //! - [`read`]: the whole line. What it reads is in `specs/Reading.antt`.
+
+#![tactic(auto)]
+
 pub mod fields;
 pub mod read;
 pub mod unreadable;

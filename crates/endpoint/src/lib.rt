@@ -10,6 +10,9 @@
 //! Read the definitions in this order: `specs/Endpoint.antt`, what a session holds; `specs/Calls.antt`, the calls;
 //! `specs/Rulings.antt`, which of them the state lets run; `specs/Objections.antt`, what else stands against one;
 //! `specs/Frames.antt`, what goes out; `specs/Steps.antt`, what a call does.
+
+#![tactic(auto)]
+
 pub mod answers;
 pub mod laws;
 pub mod opening;

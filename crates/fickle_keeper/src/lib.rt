@@ -7,4 +7,7 @@
 //! - [`fickle`]: the keeper; `fickle::keeps` is its trait.
 //!
 //! What it means is in `specs/Fickle.antt`.
+
+#![tactic(auto)]
+
 pub mod fickle;

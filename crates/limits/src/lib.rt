@@ -6,6 +6,9 @@
 //! - `queues`: queues of no slot and of one, full ones, and the turn of the ring
 //! - `tables`, `marks` and `places`: the three keepers
 //! - `words` and `edits`: lines, and edits as lines
+
+#![tactic(auto)]
+
 #[cfg(test)]
 mod edits;
 #[cfg(test)]

@@ -9,6 +9,9 @@
 //! - [`links`]: both tables together, which is what a session holds.
 //!
 //! Read `specs/Sessions.antt` for what each call does, `specs/Handles.antt` and `specs/Links.antt` for the words it uses.
+
+#![tactic(auto)]
+
 pub mod handle;
 pub mod handle_table;
 pub mod link;

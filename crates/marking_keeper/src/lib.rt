@@ -9,5 +9,8 @@
 //!
 //! What the contracts say is in `specs/`: `Records` (which row a record names, what a mark changes), `Firsts`
 //! (the first of a list that passes a test) and `Marking` (how a row stands, and the rule of places).
+
+#![tactic(auto)]
+
 pub mod marking;
 pub mod record;

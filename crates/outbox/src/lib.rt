@@ -8,6 +8,9 @@
 //! - [`edit`]: an edit, and why one is refused.
 //! - [`store`]: the outbox.
 //! - [`send`]: the sending of an edit. What it means is in `specs/Sending.antt`.
+
+#![tactic(auto)]
+
 pub mod edit;
 pub mod memory;
 pub mod send;

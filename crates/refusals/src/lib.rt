@@ -8,5 +8,8 @@
 //! - [`told`]: what a user is told of a refusal: number, name, layer and subject.
 //!
 //! `specs/Refusals.antt` has the whole list.
+
+#![tactic(auto)]
+
 pub mod errors;
 pub mod told;

@@ -10,6 +10,9 @@
 //! - [`reply`]: the answer to a link's flow that the keepers of this repository give.
 //!
 //! What the trait says is in `specs/Meaning.antt`; read that first.
+
+#![tactic(auto)]
+
 pub mod answers;
 pub mod keeper;
 pub mod reply;

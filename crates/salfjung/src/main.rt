@@ -8,6 +8,8 @@
 //! the input (`input`), the run over its lines (`replay`), the count of the edits (`tally`) and how things
 //! look in print (`print`).
 
+#![tactic(auto)]
+
 mod input;
 mod print;
 mod replay;

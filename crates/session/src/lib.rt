@@ -9,6 +9,9 @@
 //! - `queues`: putting frames and link items on the queues.
 //!
 //! What each call does is defined in the crate `endpoint`; `specs/Views.antt` says what a session stands for there.
+
+#![tactic(auto)]
+
 pub mod engine;
 mod queues;
 pub mod session;

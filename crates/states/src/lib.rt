@@ -18,6 +18,9 @@
 //! - [`laws`]: what the table comes to, in the words of Part 2, sections 2.5.1 to 2.5.5.
 //!
 //! The table that a reader has to believe is in `specs/Table.antt`.
+
+#![tactic(auto)]
+
 pub mod event;
 pub mod laws;
 pub mod state;

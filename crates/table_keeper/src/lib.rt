@@ -8,5 +8,8 @@
 //! - [`table::keeps`]: the table as a keeper.
 //!
 //! What a table means is in `specs/Table.antt`, and what it is to count pending rows in `specs/Counts.antt`.
+
+#![tactic(auto)]
+
 mod slot;
 pub mod table;
