@@ -1,7 +1,7 @@
 -- A list that is read from a place on, going round: its length, one more at its end, and its first taken away.
 use Rattle.std.proofs.Common.{◌≡◌, ℕ, zero, suc, ◌+◌, ◌-◌, ◌<◌, ◌≤◌, List, [], ◌∷◌, ◌++◌, length, get_or, take, drop, set, sym, refl, ap, ◌∙◌, ⊎_elim, not-suc-le-zero, mod-eq_of_lt, sub-one, arith}
-use native.Mathlib.Nat.{mod-eq-sub-mod}
-use lib.Seq.{take-set-lt}
+use Rattle.std.proofs.Math.Nat.{mod-eq-sub-mod}
+use Rattle.std.proofs.Math.Seq.{take-set-lt}
 use Rattle.std.proofs.lemmas.Bool.{cases_lt}
 use Rattle.std.proofs.lemmas.List.{append-nil, append_assoc, length-append, length-drop, length-take, length-take-le, take-append-le, take-set-le, take-take, drop-set-lt, drop-set-add, drop_all, drop_more, take_more, take_more_set, set-append_left, set-append_right}
 use Rattle.queue.specs.Contents.{around, slot_after}

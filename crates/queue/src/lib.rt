@@ -10,6 +10,8 @@
 //! - `ends` has the making of a queue, and what adds at its end and takes from its front,
 //! - `counts` has what a queue tells about itself,
 //! - `laws` has the law that follows for whole runs of calls.
+#![tactic(auto)]
+
 ghost use Rattle.std.specs.Prelude.{◌-◌, ◌≤◌, length};
 
 mod counts;

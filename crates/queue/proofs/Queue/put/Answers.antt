@@ -16,11 +16,11 @@ returns g c =
     let q = c.args.self.now in
     let xs = q.slots.now in
     let x = c.args.x in
-    let at = c.slot-after.result in
+    let at = c.slot_after.result in
     let long = length-around xs q.head q.used q.within in
     let spare : q.used < length xs = omega arith in
     let head : q.head < length xs = omega arith in
-    let added = put_around xs c.store.new.slots q.head q.used at x head spare c.slot-after.ensures c.store.ensures in
+    let added = put_around xs c.store.new.slots q.head q.used at x head spare c.slot_after.ensures c.store.ensures in
     record {
       put = (added, omega arith);
       count = ap length added ∙ length_push (contents q) x;

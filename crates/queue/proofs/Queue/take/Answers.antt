@@ -8,14 +8,14 @@ pub returns : goal.returns
 returns g c =
     let q = c.args.self.now in
     let xs = q.slots.now in
-    let next = c.slot-after.result in
+    let next = c.slot_after.result in
     let some : 0 < q.used = omega arith in
     let head : q.head < length xs = omega arith in
     let fewer : q.used - 1 ≤ length xs = omega arith in
     let was = length-around xs q.head q.used q.within in
     let left = length-around xs next (q.used - 1) fewer in
     record {
-      taken = take-around xs q.head q.used next _ head some q.within c.slot-after.ensures;
+      taken = take-around xs q.head q.used next _ head some q.within c.slot_after.ensures;
       count = omega arith;
       room = refl {a = places q};
     }
