@@ -4,9 +4,11 @@ use Rattle.table_keeper.specs.Slots.{key_in}
 use Rattle.table_keeper.specs.Table.{slots_of}
 use Rattle.table_keeper.proofs.table.TableKeeper.take_out.Goals as goal
 
-pub invariant-of-self : goal.invariant-of-self
-invariant-of-self c =
-    let s = c.args.self.now in (
-      omega (arith, s.reserved, c.remove.ensures.capacity),
-      (omega (arith, c.remove.ensures.len, s.few), (rw c.remove.ensures.items (distinct_removed key_in (slots_of s) c.args.i s.apart), tt)),
-    )
+pub invariant_of-self : goal.invariant_of-self
+invariant_of-self c =
+    let s = c.args.self.now in
+    record {
+      reserved = omega (arith, s.reserved, c.remove.ensures.capacity);
+      few = omega (arith, c.remove.ensures.len, s.few);
+      apart = rw c.remove.ensures.items (distinct_removed key_in (slots_of s) c.args.i s.apart);
+    }

@@ -12,7 +12,7 @@ loop-i-preserved-then-eq c =
     let ys = slots_of c.loop-i.self in
     let h : c.loop-i.i < length ys = omega arith in
     let e : eqb (key_in c.index.result.now).link (number_of c.args.link) ≡ true = rw (← c.link.ensures) (sym c.if-eq.ensures) in
-    rw c.take-out.ensures.slots (closing_removed key_in (number_of c.args.link) xs ys c.loop-i.i c.index.result.now c.loop-i.invariant h c.index.ensures e)
+    rw c.take_out.ensures.slots (closing_removed key_in (number_of c.args.link) xs ys c.loop-i.i c.index.result.now c.loop-i.invariant h c.index.ensures e)
 
 pub loop-i-preserved : goal.loop-i-preserved
 loop-i-preserved c =

@@ -7,18 +7,17 @@ use Rattle.table_keeper.specs.Table.{slots_of}
 use Rattle.table_keeper.specs.Moves.{free_new, free_few, pledged}
 use Rattle.table_keeper.proofs.table.keeps.TableKeeperKeeper.pledge.Goals as goal
 
-pub invariant-of-self : goal.invariant-of-self
-invariant-of-self c =
+pub invariant_of-self : goal.invariant_of-self
+invariant_of-self c =
     let s = c.args.self.now in
     let k = key_of c.args.row in
-    let e = c.in-Place.ensures.stands in (
-      omega (arith, s.reserved, c.push-reserved.ensures.capacity),
-      (
-        omega (arith, c.push-reserved.ensures.len, free_few s k e),
-        (rw c.push-reserved.ensures.items (distinct_push key_in (slots_of s) (record { row = c.args.row; state = None }) s.apart (free_new s k e)), tt),
-      ),
-    )
+    let e = c.in-Place.ensures.stands in
+    record {
+      reserved = omega (arith, s.reserved, c.push_reserved.ensures.capacity);
+      few = omega (arith, c.push_reserved.ensures.len, free_few s k e);
+      apart = rw c.push_reserved.ensures.items (distinct_push key_in (slots_of s) (record { row = c.args.row; state = None }) s.apart (free_new s k e));
+    }
 
 pub returns-in-Place : goal.returns-in-Place
 returns-in-Place c =
-    pledged c.args.self.now _ (record { row = c.args.row; state = None }) c.in-Place.ensures.stands c.push-reserved.ensures.items c.push-reserved.ensures.len
+    pledged c.args.self.now _ (record { row = c.args.row; state = None }) c.in-Place.ensures.stands c.push_reserved.ensures.items c.push_reserved.ensures.len
