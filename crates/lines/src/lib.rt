@@ -10,6 +10,8 @@
 //!
 //! What is read is defined in `specs/Words.antt`.
 
+#![tactic(auto)]
+
 ghost use Rattle.std.specs.Prelude.{◌≡◌};
 ghost use Rattle.std.specs.Option.{option_map};
 ghost use Rattle.lines.specs.Words.{first_word, later_words, value_in, among, stray};

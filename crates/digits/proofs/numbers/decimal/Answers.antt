@@ -4,13 +4,13 @@ use Rattle.digits.proofs.numbers.decimal.Goals as goal
 
 pub loop-digit-preserved : goal.loop-digit-preserved
 loop-digit-preserved c =
-    let digit = c.in-ok-n.ensures in
+    let digit = c.in_ok-n.ensures in
     (up_to_le _ _ _ digit, sym (digit_some c.args.most c.loop-digit.n c.args.text.now _ c.loop-digit-test.true _ digit) ∙ c.loop-digit.invariant.1)
 
-pub returns-in-err-n : goal.returns-in-err-n
-returns-in-err-n c =
-    c.from-residual.ensures
-    ∙ sym (digit_none c.args.most c.loop-digit.n c.args.text.now _ c.loop-digit-test.true c.in-err-n.ensures)
+pub returns-in_err-n : goal.returns-in_err-n
+returns-in_err-n c =
+    c.from_residual.ensures
+    ∙ sym (digit_none c.args.most c.loop-digit.n c.args.text.now _ c.loop-digit-test.true c.in_err-n.ensures)
     ∙ c.loop-digit.invariant.1
 
 pub returns : goal.returns

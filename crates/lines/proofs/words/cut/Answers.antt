@@ -3,7 +3,7 @@ use Rattle.lines.proofs.words.cut.Goals as goal
 
 pub returns : goal.returns
 returns c =
-    let at = c.place-of.ensures.place in
+    let at = c.place_of.ensures.place in
     let front = take-place c.args.text.now in
     let back = drop-place c.args.text.now in
     record { word = cc; rest = cc }
