@@ -66,18 +66,6 @@ module _ {X : Type 0} (test : X → Bool) where
       (λ (e : test x ≡ false). simp e (first-changed f kept xs))
       (cases_Bool (test x))
 
-  -- a change back
-  pub changed_back : (f g : X → X) → ((x : X) → test (f x) ≡ test x) → (xs : List X) → ((x : X) → first test xs ≡ Some x → g (f x) ≡ x) → changed test g (changed test f xs) ≡ xs
-  changed_back f g kept [] back = refl
-  changed_back f g kept (x ∷ xs) back =
-      ⊎_elim
-      (λ e.
-      let k : test (f x) ≡ true = kept x ∙ e in
-      let b : g (f x) ≡ x = back x (cond-true (test x) (Some x) (first test xs) e) in
-      rw (e, k, b))
-      (λ (e : test x ≡ false). simp e (ap (λ ys. x ∷ ys) (changed_back f g kept xs (λ y h. back y (cond-false (test x) (Some x) (first test xs) e ∙ h)))))
-      (cases_Bool (test x))
-
   -- the first for another test, which passes nothing that is changed
   pub first_other : (other : X → Bool) (f : X → X) → ((x : X) → test x ≡ true → (other x ≡ false) × (other (f x) ≡ false)) → (xs : List X) → first other (changed test f xs) ≡ first other xs
   first_other other f apart [] = refl

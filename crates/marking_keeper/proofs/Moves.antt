@@ -5,13 +5,14 @@ use Rattle.std.proofs.lemmas.Bool.{both_ways, cond-true, cond-false, eq-eqb, ne_
 use Rattle.definitions.specs.declared.numbers.DeliveryState.{DeliveryState}
 use Rattle.definitions.specs.declared.numbers.DeliveryState.TheVariants.{None as NoState}
 use Rattle.rows.specs.Keys.{Key}
-use Rattle.rows.specs.Meaning.{free, full, state_of, is_pending, is_free, Same, Put, Settle, Note, Pairs, none, pair}
+use Rattle.rows.specs.Meaning.{free, full, state_of, is_pending, is_free, Put, Settle, Note}
 use Rattle.marking_keeper.specs.declared.record.Record.{Record}
 use Rattle.marking_keeper.specs.declared.marking.MarkingKeeper.{MarkingKeeper}
 use Rattle.marking_keeper.specs.Firsts.{first, Found, Nowhere}
 use Rattle.marking_keeper.specs.Records.{naming, marked, unmarked, remarked, closed_on}
 use Rattle.marking_keeper.specs.Marking.{held, by_mark, by_first, stand, Pledges, Settles}
-use Rattle.marking_keeper.proofs.Firsts.{found_is, first_at, first_nowhere, changed_at, first_passes, first-map, first-changed, first_other, changed_back}
+use Rattle.marking_keeper.specs.Restores.{same_from}
+use Rattle.marking_keeper.proofs.Firsts.{found_is, first_at, first_nowhere, changed_at, first_passes, first-map, first-changed, first_other}
 use Rattle.marking_keeper.proofs.Loops.{Over, over_more}
 use Rattle.marking_keeper.proofs.Naming.{naming-link, naming_one, naming-closed}
 
@@ -27,10 +28,6 @@ pending_named None e = absurd (both_ways false refl e)
 pub free_named : (o : Option Record) → is_free (by_first o) ≡ true → (x : Record) × (o ≡ Some x)
 free_named (Some x) e = (x, refl)
 free_named None e = absurd (both_ways false refl e)
-
-free_mark : (m : Option DeliveryState) → is_free (by_mark m) ≡ true → m ≡ None
-free_mark (Some s) e = absurd (both_ways false refl e)
-free_mark None e = refl
 
 no_mark : (o : Option Record) → is_pending (by_first (option_map unmarked o)) ≡ false
 no_mark (Some x) = refl
@@ -59,9 +56,6 @@ state_found s k i d f = sym (ap state_of (stand_found s k i d f) ∙ state_mark 
 -- A mark that is written there is a mark on the first record that names the row.
 pub marked_found : (k : Key) (m : Option DeliveryState) (xs : List Record) (i : ℕ) (d : Record) → Found (naming k) xs (Some i) → set xs i (marked m (get_or xs i d)) ≡ remarked k m xs
 marked_found k m xs i d (x, f) = ap (λ y. set xs i (marked m y)) (found_is (naming k) xs i x f d) ∙ sym (changed_at (naming k) (marked m) xs i x f)
-
-pub same_from : (s t : MarkingKeeper) → held t ≡ held s → Same stand s t
-same_from s t e j = ap (λ xs. by_first (first (naming j) xs)) e
 
 -- A new mark on the first record that names a row is that row's state, and no other's.
 pub put_from : (s t : MarkingKeeper) (k : Key) (m : Option DeliveryState) (x : Record) → first (naming k) (held s) ≡ Some x → held t ≡ remarked k m (held s) → Put stand s k m t
@@ -121,14 +115,3 @@ closed l xs ys e j =
     ap (λ zs. state_of (by_first (first (naming j) zs))) e
     ∙ ap (λ o. state_of (by_first o)) (first-map (naming j) (closed_on l) (naming-closed j l) xs)
     ∙ closed-first j l (first (naming j) xs) (first_passes (naming j) xs)
-
--- Pledges that are settled again leave the very records.
-same_records : {s t : MarkingKeeper} → Pairs Pledges Settles s t → held t ≡ held s
-same_records none = refl
-same_records (pair {s} {a} {b} {c} {t} k p inner q rest) =
-    same_records rest ∙ q ∙ ap (remarked k None) (same_records inner ∙ p.marks)
-    ∙ changed_back (naming k) (marked (Some NoState)) (marked None) (λ x. refl) (held s)
-    (λ x f. ap (λ m. marked m x) (sym (free_mark x.mark (ap (λ o. is_free (by_first o)) (sym f) ∙ ap is_free p.place))))
-
-pub restores : (s t : MarkingKeeper) → Pairs Pledges Settles s t → Same stand s t
-restores s t p = same_from s t (same_records p)

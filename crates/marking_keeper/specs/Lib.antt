@@ -1,3 +1,4 @@
 pub mod Firsts
 pub mod Records
 pub mod Marking
+pub mod Restores

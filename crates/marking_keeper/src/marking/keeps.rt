@@ -10,6 +10,7 @@ ghost use Rattle.rows.specs.Meaning.{standing, Same, Pledge, Settle, Note, Close
 ghost use Rattle.rows.specs.Reply.{echoed};
 ghost use Rattle.marking_keeper.specs.Records.{remarked, closed_on};
 ghost use Rattle.marking_keeper.specs.Marking.{held, stand, Rule, Pledges, Settles};
+ghost use Rattle.marking_keeper.specs.Restores;
 
 use super::MarkingKeeper;
 use definitions::link_number::LinkNumber;
@@ -26,6 +27,8 @@ impl<'a> Keeper for MarkingKeeper<'a> {
     ghost pledges = { Pledges };
 
     ghost settles = { Settles };
+
+    ghost restores = { Restores.restores };
 
     fn ask(&self, row: Row) -> Standing
         ensures stands { (standing result).given (stand self.now (key_of row)) ≡ true }

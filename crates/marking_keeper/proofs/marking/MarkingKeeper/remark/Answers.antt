@@ -5,9 +5,9 @@ use Rattle.marking_keeper.specs.Marking.{by_mark}
 use Rattle.marking_keeper.proofs.Moves.{stand_found, stand_nowhere, marked_found}
 use Rattle.marking_keeper.proofs.marking.MarkingKeeper.remark.Goals as goal
 
-pub returns-in-default : goal.returns-in-default
-returns-in-default c = record {
-  was = sym (ap is_pending (stand_nowhere c.args.self.now (key_of c.args.row) c.in-default.ensures));
+pub returns-in_default : goal.returns-in_default
+returns-in_default c = record {
+  was = sym (ap is_pending (stand_nowhere c.args.self.now (key_of c.args.row) c.in_default.ensures));
   marks = refl;
   lent = refl;
 }

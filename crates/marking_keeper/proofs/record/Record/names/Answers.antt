@@ -2,7 +2,6 @@ use Rattle.std.proofs.Common.{◌≡◌, ℕ, List, sym, ap, ◌∙◌}
 use Rattle.std.specs.Str.{bytes_eq}
 use Rattle.std.proofs.lemmas.Bool.{leb-true}
 use Rattle.names.specs.Octets.{bytes_in}
-use Rattle.names.proofs.Slices.{slices_equal}
 use Rattle.rows.specs.Keys.{key_of}
 use Rattle.marking_keeper.proofs.Naming.{naming-bytes}
 use Rattle.marking_keeper.proofs.record.Record.names.Goals as goal
@@ -13,7 +12,7 @@ returns-then-self-from c =
     let x = c.args.self.now in
     let row = c.args.row.now in
     let same : x.link ≡ row.link.number = cc in
-    slices_equal c.as-slice.result.now c.as-slice-then-self-from.result.now c.eq.result c.eq.ensures
-    ∙ ap (λ (ys : List ℕ). bytes_eq ys c.as-slice-then-self-from.result.now) c.as-slice.ensures
-    ∙ ap (λ (ys : List ℕ). bytes_eq (bytes_in x.tag) ys) (c.as-slice-then-self-from.ensures ∙ ap bytes_in c.tag-tag.ensures)
+    c.eq.ensures
+    ∙ ap (λ (ys : List ℕ). bytes_eq ys c.as_slice-then-self-from.result.now) c.as_slice.ensures
+    ∙ ap (λ (ys : List ℕ). bytes_eq (bytes_in x.tag) ys) (c.as_slice-then-self-from.ensures ∙ ap bytes_in c.tag-tag.ensures)
     ∙ sym (naming-bytes (key_of row) x row.link.few (leb-true x.tag.len 32 (sym c.if-not-fits.ensures)) same)

@@ -5,9 +5,9 @@ use Rattle.marking_keeper.specs.Marking.{by_mark}
 use Rattle.marking_keeper.proofs.Moves.{stand_found, stand_nowhere, mark_found}
 use Rattle.marking_keeper.proofs.marking.keeps.MarkingKeeperKeeper.ask.Goals as goal
 
-pub returns-in-default : goal.returns-in-default
-returns-in-default c =
-    let n = c.in-default.ensures in
+pub returns-in_default : goal.returns-in_default
+returns-in_default c =
+    let n = c.in_default.ensures in
     record { stands = ap is_full (stand_nowhere c.args.self.now (key_of c.args.row) n); place = n }
 
 pub returns-in-Some-mark : goal.returns-in-Some-mark

@@ -13,8 +13,8 @@ loop-record-preserved c =
     let ys = c.loop-record.record-items in
     let i = c.loop-record.record-index in
     elim c.if-record-number.branch [
-      | then-record-number w ↦ w.record·items-is ∙ closed-more n xs ys i _ (omega arith) (omega arith) w.if-record-number.true c.loop-record.invariant
-      | else-record-number w ↦ w.record·items-is ∙ closed_skip n xs ys i _ (omega arith) (omega arith) w.if-record-number.false c.loop-record.invariant
+      | then-record-number w ↦ w.record-items-is ∙ closed-more n xs ys i _ (omega arith) (omega arith) w.if-record-number.true c.loop-record.invariant
+      | else-record-number w ↦ w.record-items-is ∙ closed_skip n xs ys i _ (omega arith) (omega arith) w.if-record-number.false c.loop-record.invariant
     ]
 
 pub returns : goal.returns

@@ -7,9 +7,9 @@ use Rattle.marking_keeper.specs.Marking.{by_mark}
 use Rattle.marking_keeper.proofs.Moves.{stand_found, stand_nowhere, marked_found, pledged}
 use Rattle.marking_keeper.proofs.marking.keeps.MarkingKeeperKeeper.pledge.Goals as goal
 
-pub returns-in-default : goal.returns-in-default
-returns-in-default c = record {
-  keeps = (ap is_full (stand_nowhere c.args.self.now (key_of c.args.row) c.in-default.ensures), ap number_of c.link.ensures, λ _. refl);
+pub returns-in_default : goal.returns-in_default
+returns-in_default c = record {
+  keeps = (ap is_full (stand_nowhere c.args.self.now (key_of c.args.row) c.in_default.ensures), ap number_of c.link.ensures, λ _. refl);
   marks = refl;
   lent = refl;
 }
