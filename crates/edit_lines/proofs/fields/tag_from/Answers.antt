@@ -4,8 +4,8 @@ use Rattle.edit_lines.proofs.Texts.{short_none, short-long, short-fits, first_fe
 use Rattle.edit_lines.proofs.fields.tag_from.Goals as goal
 
 -- The text is not hexadecimal.
-pub returns-in-default : goal.returns-in-default
-returns-in-default c = record { tag = sym (short_none (hexadecimal c.args.text.now) c.in-default.ensures.count); fits = tt }
+pub returns-in_default : goal.returns-in_default
+returns-in_default c = record { tag = sym (short_none (hexadecimal c.args.text.now) c.in_default.ensures.count); fits = tt }
 
 -- It writes too many bytes.
 pub returns-then-n-gt32 : goal.returns-then-n-gt32
