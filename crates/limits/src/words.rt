@@ -39,7 +39,7 @@ const STRAYS: [(&[u8], bool, Option<&[u8]>); 10] = [
 fn flags_and_strays(rt: HostRuntime) {
     for (text, forced, stray) in STRAYS.iter() {
         let line = Line::new(text);
-        assert!(rt; line.verb() == b"edit" && line.flag(b"force") == *forced);
+        assert!(rt; line.verb() == b"edit".as_slice() && line.flag(b"force") == *forced);
         assert!(rt; line.stray(b"edit link= tag= force") == *stray);
     }
 }
