@@ -1,5 +1,5 @@
 -- The facts that a handle table keeps, when a handle is given or freed.
-use Rattle.std.proofs.Common.{◌≡◌, ℕ, ◌+◌, ◌<◌, ◌≤◌, Bool, true, false, cond, not, ◌&&◌, eqb, ltb, ◌≢◌, List, [], ◌∷◌, ◌++◌, map, length, get_or, set, Some, Option, sym, refl, ap, ◌∙◌, subst, ⊎_elim, arith}
+use Rattle.std.proofs.Common.{◌≡◌, ℕ, ◌+◌, ◌<◌, ◌≤◌, true, false, cond, not, ◌&&◌, eqb, ltb, ◌≢◌, List, [], ◌∷◌, ◌++◌, length, set, Some, Option, sym, refl, ap, ◌∙◌, subst, ⊎_elim, arith}
 use Rattle.std.proofs.lemmas.List.{get_or_past, get_or-set_same, get_or-set_other, map-set}
 use Rattle.std.proofs.lemmas.Bool.{and_parts, and_from, both_ways, cases_Bool, cases_lt, eqb-true, eqb-false, eq-eqb, ne_eqb, lt-ltb, ltb-true, not-true}
 use Rattle.std.specs.Option.{option_to_list}
@@ -8,13 +8,13 @@ use Rattle.names.specs.declared.octets.Octets.{Octets}
 use Rattle.names.specs.Octets.{bytes_in}
 use Rattle.definitions.specs.declared.numbers.OutputHandle.{OutputHandle}
 use Rattle.tables.specs.Apart.{apart}
-use Rattle.tables.specs.Finds.{any, every, count}
+use Rattle.tables.specs.Finds.{any, every}
 use Rattle.tables.proofs.Apart.{apart_push, apart_parts, apart-set}
 use Rattle.tables.proofs.Finds.{count_set, count_some, every_push, every_parts, every_weaker, every_beside, none_beside, any-map}
 use Rattle.links.specs.declared.handle.HandleState.{HandleState}
 use Rattle.links.specs.declared.handle.HandleState.TheVariants.{Free, Named}
 use Rattle.links.specs.declared.handle.HandleEntry.{HandleEntry}
-use Rattle.links.specs.Handles.{unused, handle_at, is_named, in_use, bears, bears_name, used_in, restated, vacant_at, same_handle, same_name, states_in}
+use Rattle.links.specs.Handles.{unused, handle_at, in_use, bears, bears_name, used_in, restated, vacant_at, same_handle, same_name, states_in}
 
 eqb_flip : (a b : ℕ) → eqb a b ≡ eqb b a
 eqb_flip a b =

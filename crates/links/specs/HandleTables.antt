@@ -1,11 +1,11 @@
 -- What the calls on a handle table do.
-use Rattle.std.specs.Prelude.{◌≡◌, Bool, List, [], ◌∷◌, ◌++◌, replicate, Some, None, vec_items, MatchBool, Option, slice_set}
+use Rattle.std.specs.Prelude.{◌≡◌, List, [], ◌∷◌, ◌++◌, replicate, vec_items, slice_set}
 use Rattle.names.specs.declared.octets.Octets.{Octets}
 use Rattle.definitions.specs.declared.numbers.OutputHandle.{OutputHandle}
 use Rattle.links.specs.declared.handle.HandleEntry.{HandleEntry}
 use Rattle.links.specs.declared.handle.HandleState.TheVariants.{Free, Named}
 use Rattle.links.specs.declared.handle_table.HandleTable.{HandleTable}
-use Rattle.links.specs.Handles.{handle_at, in_use, restated, unused, countdown}
+use Rattle.links.specs.Handles.{handle_at, restated, unused, countdown}
 
 -- how each handle stands
 abbrev pub entries_of : HandleTable → List HandleEntry

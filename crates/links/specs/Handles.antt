@@ -1,5 +1,5 @@
 -- How the output handles stand: a list with a place for each handle, and the handles that are not in use.
-use Rattle.std.specs.Prelude.{◌≡◌, ℕ, zero, suc, Bool, true, false, not, ◌&&◌, List, [], ◌∷◌, ◌++◌, map, replicate, ◌==◌, nat_lt, slice_index_or}
+use Rattle.std.specs.Prelude.{ℕ, zero, suc, Bool, true, false, not, ◌&&◌, List, [], ◌∷◌, map, ◌==◌, nat_lt, slice_index_or}
 use Rattle.names.specs.declared.octets.Octets.{Octets}
 use Rattle.names.specs.Octets.{same_octets}
 use Rattle.definitions.specs.declared.numbers.OutputHandle.{OutputHandle}

@@ -1,8 +1,5 @@
 -- How the links of the link numbers stand: a list with a place for each number.
-use Rattle.std.specs.Prelude.{ℕ, Bool, true, false, List, replicate, Option, ◌==◌, slice_index_or}
-use Rattle.tables.specs.Finds.{place_of, blanked}
-use Rattle.definitions.specs.declared.numbers.InputHandle.{InputHandle}
-use Rattle.definitions.specs.declared.numbers.OutputHandle.{OutputHandle}
+use Rattle.std.specs.Prelude.{ℕ, Bool, true, false, List, replicate, ◌==◌, slice_index_or}
 use Rattle.links.specs.declared.link.LinkState.{LinkState}
 use Rattle.links.specs.declared.link.LinkState.TheVariants.{Idle, Awaiting, Attached}
 use Rattle.links.specs.Relays.{output_of}

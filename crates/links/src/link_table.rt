@@ -1,6 +1,4 @@
 //! The table of links.
-ghost use Rattle.std.specs.Prelude.{◌≤◌};
-
 use crate::link::LinkState;
 
 pub mod methods;

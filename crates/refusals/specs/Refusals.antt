@@ -1,5 +1,5 @@
 -- The refusals: for each its number, the layer that refuses, what it is about, and which values that may be.
-use Rattle.std.specs.Prelude.{◌≡◌, Bool, true, not, ◌&&◌, ◌||◌, ℕ, ◌^◌, eqb, leb, ltb}
+use Rattle.std.specs.Prelude.{Bool, ◌&&◌, ◌||◌, ℕ, ◌^◌, eqb, leb, ltb}
 use Rattle.definitions.specs.LinkNumbers.{number_of}
 use Rattle.rows.specs.declared.answers.KeeperError.{KeeperError}
 use Rattle.rows.specs.declared.answers.KeeperError.TheVariants.{RowOpen as KeptOpen, NoPlace}

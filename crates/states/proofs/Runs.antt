@@ -1,5 +1,5 @@
 -- What has happened, told by the state that was reached.
-use Rattle.std.proofs.Common.{◌≡◌, ℕ, Bool, true, false, not, ◌&&◌, ◌||◌, eqb, List, [], ◌∷◌, sym, refl, arith}
+use Rattle.std.proofs.Common.{◌≡◌, ℕ, Bool, true, false, not, ◌&&◌, ◌||◌, eqb, List, sym, refl, arith}
 use Rattle.std.proofs.lemmas.Bool.{both_ways, not-true}
 use Rattle.states.specs.declared.state.SessionState.{SessionState}
 use Rattle.states.specs.declared.state.SessionState.TheVariants.{Unmapped, BeginSent, BeginReceived, Mapped, EndSent, Discarding, Stopped}
@@ -7,9 +7,9 @@ use Rattle.states.specs.declared.event.SessionEvent.{SessionEvent}
 use Rattle.states.specs.declared.event.SessionEvent.TheVariants.{OurBegin, OurEnd, PeerBegin, PeerEnd, PeerFrame, OurFrame}
 use Rattle.states.specs.declared.event.Verdict.{Verdict}
 use Rattle.states.specs.declared.event.Verdict.TheVariants.{No, To, Runs, Mute, Drop}
-use Rattle.states.specs.Table.{verdict, led, next}
+use Rattle.states.specs.Table.{verdict, led}
 use Rattle.states.specs.Laws.{Happening, Reached, new, more, is_our_begin, is_peer_begin, is_end, happened, is_mapped, MappedByBothBegins, StoppedIsFinal, DiscardingUntilPeerEnd}
-use Rattle.states.proofs.Every.{every_bool, every_state, every_event, at_bool, at_state, at_event}
+use Rattle.states.proofs.Every.{every_bool, every_event, at_bool, at_state, at_event}
 
 -- The state tells whether we began, whether the peer did and whether one of us ended; once one has ended, only that.
 abbrev tells : SessionState → Bool → Bool → Bool → Bool

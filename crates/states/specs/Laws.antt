@@ -4,8 +4,7 @@ use Rattle.states.specs.declared.state.SessionState.{SessionState}
 use Rattle.states.specs.declared.state.SessionState.TheVariants.{Unmapped, BeginSent, BeginReceived, Mapped, EndSent, Discarding, Stopped}
 use Rattle.states.specs.declared.event.SessionEvent.{SessionEvent}
 use Rattle.states.specs.declared.event.SessionEvent.TheVariants.{OurBegin, OurEnd, PeerBegin, PeerEnd, PeerFrame, OurFrame}
-use Rattle.states.specs.declared.event.Verdict.{Verdict}
-use Rattle.states.specs.declared.event.Verdict.TheVariants.{No, To, Runs, Mute, Drop}
+use Rattle.states.specs.declared.event.Verdict.TheVariants.{No, To}
 use Rattle.states.specs.Table.{verdict, next}
 
 -- an event with the condition of our end, which only our end has

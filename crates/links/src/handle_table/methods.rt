@@ -3,7 +3,7 @@ ghost use Rattle.std.specs.Prelude.{◌≡◌, true, false, IfOk, nat_le};
 ghost use Rattle.std.specs.Option.{option_map};
 ghost use Rattle.tables.specs.Finds.{any, place_of};
 ghost use Rattle.links.specs.Handles.{handle_at, in_use, bears_name, used_in};
-ghost use Rattle.links.specs.HandleTables.{entries_of, vacant_of, Fresh, Gave, Freed};
+ghost use Rattle.links.specs.HandleTables.{entries_of, Fresh, Gave, Freed};
 
 use super::sought::ByName;
 use super::{HANDLES, HandleTable};

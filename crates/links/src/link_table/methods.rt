@@ -1,5 +1,5 @@
 //! Looking links up, and changing how they stand.
-ghost use Rattle.std.specs.Prelude.{◌≡◌, ◌<◌, map, slice_set};
+ghost use Rattle.std.specs.Prelude.{◌≡◌, map, slice_set};
 ghost use Rattle.std.specs.Option.{option_map};
 ghost use Rattle.definitions.specs.LinkNumbers.{number_of};
 ghost use Rattle.tables.specs.Finds.{any, place_of, blanked, Within};

@@ -2,7 +2,7 @@
 ghost use Rattle.std.specs.Prelude.{◌≡◌, IfOk, OnErr};
 ghost use Rattle.definitions.specs.LinkNumbers.{number_of};
 ghost use Rattle.links.specs.Relays.{mode_of};
-ghost use Rattle.links.specs.Sessions.{tables_of, none_yet, Allocatable, Allocates, Deallocates, Attachable, attached, is_used};
+ghost use Rattle.links.specs.Sessions.{tables_of, none_yet, Allocatable, Allocates, Deallocates, Attachable, attached};
 
 use super::Links;
 use crate::handle_table::HandleTable;
