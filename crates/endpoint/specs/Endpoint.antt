@@ -1,5 +1,5 @@
 -- What a session holds.
-use Rattle.std.specs.Prelude.{ℕ, List, [], Some, None, Option}
+use Rattle.std.specs.Prelude.{ℕ, List, [], None, Option}
 use Rattle.definitions.specs.declared.numbers.IncomingChannel.{IncomingChannel}
 use Rattle.states.specs.declared.state.SessionState.{SessionState}
 use Rattle.states.specs.declared.state.SessionState.TheVariants.{Unmapped}

@@ -1,5 +1,5 @@
 -- What a call does.
-use Rattle.std.specs.Prelude.{◌≡◌, ℕ, cond, List, [], ◌∷◌, Some, None, Ok, Err, Option, Result}
+use Rattle.std.specs.Prelude.{◌≡◌, ℕ, cond, List, [], ◌∷◌, Some, None, Ok, Err, Result}
 use Rattle.names.specs.declared.octets.Octets.{Octets}
 use Rattle.definitions.specs.declared.link_number.LinkNumber.{LinkNumber}
 use Rattle.definitions.specs.declared.numbers.IncomingChannel.{IncomingChannel}
@@ -13,13 +13,11 @@ use Rattle.frames.specs.declared.performatives.Begin.{Begin}
 use Rattle.frames.specs.declared.session.SessionFrame.{SessionFrame}
 use Rattle.frames.specs.declared.link.LinkItem.{LinkItem}
 use Rattle.frames.specs.declared.link.LinkFrame.TheVariants.{Attach as AttachItem}
-use Rattle.refusals.specs.declared.errors.Error.{Error}
 use Rattle.refusals.specs.declared.errors.Error.TheVariants.{State, Session}
 use Rattle.refusals.specs.declared.errors.SessionInnerError.{SessionInnerError}
 use Rattle.rows.specs.Meaning.{Same}
 use Rattle.rows.specs.declared.keeper.Keeper.{Ghosts}
 use Rattle.links.specs.Sessions.{LinkTables, Allocated, is_used, freed, awaiting_by, attached}
-use Rattle.endpoint.specs.declared.answers.SessionStopReason.{SessionStopReason}
 use Rattle.endpoint.specs.declared.answers.SessionStopReason.TheVariants.{Ended, RemoteEnded}
 use Rattle.endpoint.specs.Endpoint.{Endpoint, View, ids, restated, relinked}
 use Rattle.endpoint.specs.Calls.{Call, our_begin, our_end, allocate, deallocate, our_attach, peer_begin, peer_end, peer_attach, Answer, done, gave, was_used, Outcome, ran, refused, dropped}

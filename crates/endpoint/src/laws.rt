@@ -1,1 +1,1 @@
-//! What the meaning of the calls comes to.
+//! What the meaning of the calls comes to. No law is stated yet.

@@ -5,7 +5,7 @@
 //!
 //! - [`opening`]: what a session is opened with.
 //! - [`answers`]: what calls answer, and why a session stopped.
-//! - [`laws`]: what the meaning comes to, in the words of Part 2.
+//! - [`laws`]: what the meaning comes to, in the words of Part 2; still to come.
 //!
 //! Read the definitions in this order: `specs/Endpoint.antt`, what a session holds; `specs/Calls.antt`, the calls;
 //! `specs/Rulings.antt`, which of them the state lets run; `specs/Objections.antt`, what else stands against one;

@@ -1,5 +1,5 @@
 -- What a session stands for.
-use Rattle.std.specs.Prelude.{◌≡◌, List, [], Ok, Err, vec_items, Result}
+use Rattle.std.specs.Prelude.{List, [], Ok, Err, vec_items, Result}
 use Rattle.queue.specs.declared.Queue.{Queue}
 use Rattle.frames.specs.declared.link.LinkItem.{LinkItem}
 use Rattle.frames.specs.declared.session.SessionFrame.{SessionFrame}

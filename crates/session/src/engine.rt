@@ -1,0 +1,1 @@
+//! The calls that a user makes. They are still to come.
