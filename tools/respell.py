@@ -4,7 +4,8 @@
 usage: tools/respell.py [ROOT]     once, right after the toolchain's port.py, in the folder ROOT (this folder)
 
 A name is taken from a line of specs/ or proofs/ that declares it. It is changed wherever it stands as a whole word in an
-.antt file, and in the ghost lines and clauses of an .rt file. Code, strings and must-fail edits are left alone.
+.antt file, and in the ghost lines and clauses of an .rt file. Code and must-fail edits are left alone. A second run would
+turn names that are right by now, so there is none where docs/PORT.md tells of the first.
 """
 
 import os
@@ -114,6 +115,8 @@ def turn(path, find, turned, ghost_only):
 
 def main():
     root = sys.argv[1] if len(sys.argv) > 1 else "."
+    if os.path.exists(os.path.join(root, "docs", "PORT.md")):
+        sys.exit("respell: docs/PORT.md is there, so this was run already; nothing was changed")
     names, turned = renamings(root)
     # Two names that become one, or one that becomes another that stands somewhere already.
     stands = set()

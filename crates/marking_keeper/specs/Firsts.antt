@@ -1,5 +1,5 @@
 -- The first element of a list that passes a test.
-use Rattle.std.specs.Prelude.{◌≡◌, ℕ, ◌<◌, Bool, true, false, cond, List, [], ◌∷◌, length, get_or, Some, None, Option, slice_index_or}
+use Rattle.std.specs.Prelude.{◌≡◌, ℕ, ◌<◌, Bool, true, false, cond, List, [], ◌∷◌, length, Some, None, Option, slice_index_or}
 
 module _ {X : Type 0} (test : X → Bool) where
   -- the first element that passes
@@ -15,7 +15,7 @@ module _ {X : Type 0} (test : X → Bool) where
   -- The element at place i is x and passes, and none before it does.
   pub record First (xs : List X) (i : ℕ) (x : X) : Type 0 where
     pub within : i < length xs
-    pub here : get_or xs i x ≡ x
+    pub here : slice_index_or xs i x ≡ x
     pub passes : test x ≡ true
     pub before : (j : ℕ) → j < i → (d : X) → test (slice_index_or xs j d) ≡ false
 

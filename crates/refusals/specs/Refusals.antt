@@ -1,5 +1,5 @@
 -- The refusals: for each its number, the layer that refuses, what it is about, and which values that may be.
-use Rattle.std.specs.Prelude.{Bool, ◌&&◌, ◌||◌, ℕ, ◌^◌, eqb, leb, ltb}
+use Rattle.std.specs.Prelude.{Bool, ◌&&◌, ◌||◌, ℕ, ◌^◌, ◌==◌, nat_le, nat_lt}
 use Rattle.definitions.specs.LinkNumbers.{number_of}
 use Rattle.rows.specs.declared.answers.KeeperError.{KeeperError}
 use Rattle.rows.specs.declared.answers.KeeperError.TheVariants.{RowOpen as KeptOpen, NoPlace}
@@ -24,19 +24,19 @@ pub record Refusal : Type 0 where
 
 -- The sets: numbers of 32 bits, link numbers, and no subject.
 abbrev pub any : ℕ → Bool
-any n = ltb n (2 ^ 32)
+any n = nat_lt n (2 ^ 32)
 
 abbrev pub a_link : ℕ → Bool
-a_link n = leb n 63
+a_link n = nat_le n 63
 
 abbrev pub none : ℕ → Bool
-none n = eqb n 0
+none n = n == 0
 
 -- Engine: the state's number.
 abbrev pub of_state : SessionStateError → Refusal
-of_state (Stopped s) = record { number = 1; layer = 3; subject = state_number s; subjects = λ n. leb 4 n && leb n 6 }
-of_state (IllegalState s) = record { number = 2; layer = 3; subject = state_number s; subjects = λ n. leb n 5 }
-of_state (SessionNotMapped s) = record { number = 3; layer = 3; subject = state_number s; subjects = λ n. leb n 2 }
+of_state (Stopped s) = record { number = 1; layer = 3; subject = state_number s; subjects = λ n. nat_le 4 n && nat_le n 6 }
+of_state (IllegalState s) = record { number = 2; layer = 3; subject = state_number s; subjects = λ n. nat_le n 5 }
+of_state (SessionNotMapped s) = record { number = 3; layer = 3; subject = state_number s; subjects = λ n. nat_le n 2 }
 
 -- Allocation of a link: the link number that was handed in.
 abbrev pub of_alloc : AllocLinkError → Refusal
@@ -56,7 +56,7 @@ of_keeper (NoPlace l) = record { number = 17; layer = 1; subject = number_of l; 
 
 -- Session: a length that is wrong for a name or for a tag, an input handle, a link number, a delivery id, a count of slots.
 abbrev pub of_session : SessionInnerError → Refusal
-of_session (BadLength n) = record { number = 4; layer = 2; subject = n; subjects = λ k. eqb k 0 || ltb 32 k }
+of_session (BadLength n) = record { number = 4; layer = 2; subject = n; subjects = λ k. k == 0 || nat_lt 32 k }
 of_session (Alloc e) = of_alloc e
 of_session (RemoteAttachingLinkNameNotFound h) = record { number = 8; layer = 2; subject = h.0; subjects = any }
 of_session (HandleInUse h) = record { number = 9; layer = 2; subject = h.0; subjects = any }
@@ -67,7 +67,7 @@ of_session (RowOpen l) = record { number = 14; layer = 2; subject = number_of l;
 of_session (IdOpen i) = record { number = 15; layer = 2; subject = i; subjects = any }
 of_session BookFull = record { number = 16; layer = 2; subject = 0; subjects = none }
 of_session (Keeper e) = of_keeper e
-of_session (WireShort n) = record { number = 18; layer = 2; subject = n; subjects = λ k. leb 1 k && leb k 257 }
+of_session (WireShort n) = record { number = 18; layer = 2; subject = n; subjects = λ k. nat_le 1 k && nat_le k 257 }
 of_session LinkShort = record { number = 19; layer = 2; subject = 0; subjects = none }
 
 abbrev pub refusal : Error → Refusal
