@@ -4,23 +4,39 @@ ghost use Rattle.std.specs.Prelude.{◌≡◌};
 ghost use Rattle.definitions.specs.Numbers.{state_number, terminal};
 
 /// A handle as a frame carries it (Part 2, 2.8.4).
-#[derive(Clone, Copy)]
+#[derive(Clone, Copy, PartialEq, Eq, Debug)]
 pub struct Handle(pub u32);
 
 /// The handle that we gave a link; our frames on the link carry it.
-#[derive(Clone, Copy)]
+#[derive(Clone, Copy, PartialEq, Eq, Debug)]
 pub struct OutputHandle(pub u32);
 
 /// The handle that the peer gave a link; its frames on the link carry it.
-#[derive(Clone, Copy)]
+#[derive(Clone, Copy, PartialEq, Eq, Debug)]
 pub struct InputHandle(pub u32);
 
+impl From<OutputHandle> for Handle {
+    ghost from_gives = { λ ours handle. handle.0 ≡ ours.0 };
+
+    fn from(ours: OutputHandle) -> Handle {
+        Handle(ours.0)
+    }
+}
+
+impl From<Handle> for InputHandle {
+    ghost from_gives = { λ handle theirs. theirs.0 ≡ handle.0 };
+
+    fn from(handle: Handle) -> InputHandle {
+        InputHandle(handle.0)
+    }
+}
+
 /// The channel on which our frames of a session go out.
-#[derive(Clone, Copy)]
+#[derive(Clone, Copy, PartialEq, Eq, Debug)]
 pub struct OutgoingChannel(pub u16);
 
 /// The channel on which the peer's frames of a session come.
-#[derive(Clone, Copy)]
+#[derive(Clone, Copy, PartialEq, Eq, Debug)]
 pub struct IncomingChannel(pub u16);
 
 /// The id of a transfer (Part 2, 2.8.9).
@@ -74,14 +90,7 @@ impl DeliveryState {
     pub fn number(self) -> u8
         ensures { result ≡ state_number self }
     {
-        match self {
-            DeliveryState::None => 0,
-            DeliveryState::Received => 1,
-            DeliveryState::Accepted => 2,
-            DeliveryState::Rejected => 3,
-            DeliveryState::Released => 4,
-            DeliveryState::Modified => 5,
-        }
+        self as u8
     }
 
     /// Whether the receiver's work on the delivery is over.

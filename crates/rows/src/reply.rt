@@ -2,7 +2,7 @@
 ghost use Rattle.std.specs.Prelude.{◌≡◌};
 ghost use Rattle.rows.specs.Reply.{echoed};
 
-use definitions::numbers::{Handle, OutputHandle};
+use definitions::numbers::OutputHandle;
 use frames::link::LinkFlow;
 
 /// A flow that asks for an echo gets itself back, under the output handle and asking for none; another
@@ -10,11 +10,8 @@ use frames::link::LinkFlow;
 pub fn echo(flow: LinkFlow, handle: OutputHandle) -> Option<LinkFlow>
     ensures { result ≡ echoed flow handle }
 {
-    if !flow.echo {
-        return None;
-    }
-    Some(LinkFlow {
-        handle: Handle(handle.0),
+    flow.echo.then_some(LinkFlow {
+        handle: handle.into(),
         echo: false,
         ..flow
     })
