@@ -14,11 +14,13 @@ use Rattle.refusals.specs.declared.errors.SessionStateError.{SessionStateError}
 use Rattle.refusals.specs.declared.errors.SessionStateError.TheVariants.{Stopped, IllegalState, SessionNotMapped}
 use Rattle.refusals.specs.declared.errors.Error.{Error}
 use Rattle.refusals.specs.declared.errors.Error.TheVariants.{State, Session}
+use Rattle.refusals.specs.declared.layer.Layer.{Layer}
+use Rattle.refusals.specs.declared.layer.Layer.TheVariants.{Keeper as InKeeper, Session as InSession, Engine as InEngine}
 
--- One refusal: its number, its layer (1 keeper, 2 session, 3 engine), its subject, and the set of values that its subject may have.
+-- One refusal: its number, its layer, its subject, and the set of values that its subject may have.
 pub record Refusal : Type 0 where
   pub number : ℕ
-  pub layer : ℕ
+  pub layer : Layer
   pub subject : ℕ
   pub subjects : ℕ → Bool
 
@@ -34,41 +36,41 @@ none n = n == 0
 
 -- Engine: the state's number.
 abbrev pub of_state : SessionStateError → Refusal
-of_state (Stopped s) = record { number = 1; layer = 3; subject = state_number s; subjects = λ n. nat_le 4 n && nat_le n 6 }
-of_state (IllegalState s) = record { number = 2; layer = 3; subject = state_number s; subjects = λ n. nat_le n 5 }
-of_state (SessionNotMapped s) = record { number = 3; layer = 3; subject = state_number s; subjects = λ n. nat_le n 2 }
+of_state (Stopped s) = record { number = 1; layer = InEngine; subject = state_number s; subjects = λ n. nat_le 4 n && nat_le n 6 }
+of_state (IllegalState s) = record { number = 2; layer = InEngine; subject = state_number s; subjects = λ n. nat_le n 5 }
+of_state (SessionNotMapped s) = record { number = 3; layer = InEngine; subject = state_number s; subjects = λ n. nat_le n 2 }
 
 -- Allocation of a link: the link number that was handed in.
 abbrev pub of_alloc : AllocLinkError → Refusal
-of_alloc (DuplicatedLinkName l) = record { number = 5; layer = 2; subject = l; subjects = any }
-of_alloc HandlesFull = record { number = 6; layer = 2; subject = 0; subjects = none }
-of_alloc (LinkNumber l) = record { number = 7; layer = 2; subject = l; subjects = any }
+of_alloc (DuplicatedLinkName l) = record { number = 5; layer = InSession; subject = l; subjects = any }
+of_alloc HandlesFull = record { number = 6; layer = InSession; subject = 0; subjects = none }
+of_alloc (LinkNumber l) = record { number = 7; layer = InSession; subject = l; subjects = any }
 
 -- Links under input handles: the handle.
 abbrev pub of_relay : LinkRelayError → Refusal
-of_relay (UnattachedHandle h) = record { number = 10; layer = 2; subject = h.0; subjects = any }
-of_relay (TransferFrameToSender h) = record { number = 11; layer = 2; subject = h.0; subjects = any }
+of_relay (UnattachedHandle h) = record { number = 10; layer = InSession; subject = h.0; subjects = any }
+of_relay (TransferFrameToSender h) = record { number = 11; layer = InSession; subject = h.0; subjects = any }
 
 -- Keeper: the number of the row's link.
 abbrev pub of_keeper : KeeperError → Refusal
-of_keeper (KeptOpen l) = record { number = 14; layer = 1; subject = number_of l; subjects = a_link }
-of_keeper (NoPlace l) = record { number = 17; layer = 1; subject = number_of l; subjects = a_link }
+of_keeper (KeptOpen l) = record { number = 14; layer = InKeeper; subject = number_of l; subjects = a_link }
+of_keeper (NoPlace l) = record { number = 17; layer = InKeeper; subject = number_of l; subjects = a_link }
 
 -- Session: a length that is wrong for a name or for a tag, an input handle, a link number, a delivery id, a count of slots.
 abbrev pub of_session : SessionInnerError → Refusal
-of_session (BadLength n) = record { number = 4; layer = 2; subject = n; subjects = λ k. k == 0 || nat_lt 32 k }
+of_session (BadLength n) = record { number = 4; layer = InSession; subject = n; subjects = λ k. k == 0 || nat_lt 32 k }
 of_session (Alloc e) = of_alloc e
-of_session (RemoteAttachingLinkNameNotFound h) = record { number = 8; layer = 2; subject = h.0; subjects = any }
-of_session (HandleInUse h) = record { number = 9; layer = 2; subject = h.0; subjects = any }
+of_session (RemoteAttachingLinkNameNotFound h) = record { number = 8; layer = InSession; subject = h.0; subjects = any }
+of_session (HandleInUse h) = record { number = 9; layer = InSession; subject = h.0; subjects = any }
 of_session (Relay e) = of_relay e
-of_session (UntaggedFirst h) = record { number = 12; layer = 2; subject = h.0; subjects = any }
-of_session BacklogFull = record { number = 13; layer = 2; subject = 0; subjects = none }
-of_session (RowOpen l) = record { number = 14; layer = 2; subject = number_of l; subjects = a_link }
-of_session (IdOpen i) = record { number = 15; layer = 2; subject = i; subjects = any }
-of_session BookFull = record { number = 16; layer = 2; subject = 0; subjects = none }
+of_session (UntaggedFirst h) = record { number = 12; layer = InSession; subject = h.0; subjects = any }
+of_session BacklogFull = record { number = 13; layer = InSession; subject = 0; subjects = none }
+of_session (RowOpen l) = record { number = 14; layer = InSession; subject = number_of l; subjects = a_link }
+of_session (IdOpen i) = record { number = 15; layer = InSession; subject = i; subjects = any }
+of_session BookFull = record { number = 16; layer = InSession; subject = 0; subjects = none }
 of_session (Keeper e) = of_keeper e
-of_session (WireShort n) = record { number = 18; layer = 2; subject = n; subjects = λ k. nat_le 1 k && nat_le k 257 }
-of_session LinkShort = record { number = 19; layer = 2; subject = 0; subjects = none }
+of_session (WireShort n) = record { number = 18; layer = InSession; subject = n; subjects = λ k. nat_le 1 k && nat_le k 257 }
+of_session LinkShort = record { number = 19; layer = InSession; subject = 0; subjects = none }
 
 abbrev pub refusal : Error → Refusal
 refusal (State e) = of_state e

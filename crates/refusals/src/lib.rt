@@ -5,6 +5,7 @@
 //!
 //! - [`errors`]: the errors of session and engine, under the crate's names, and how one becomes another on its
 //!   way up. The keeper's are in the crate `rows`.
+//! - [`layer`]: the layers, with their numbers.
 //! - [`told`]: what a user is told of a refusal: number, name, layer and subject.
 //!
 //! `specs/Refusals.antt` has the whole list.
@@ -12,4 +13,5 @@
 #![tactic(auto)]
 
 pub mod errors;
+pub mod layer;
 pub mod told;

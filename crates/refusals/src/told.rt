@@ -2,20 +2,22 @@
 ghost use Rattle.std.specs.Prelude.{◌≡◌};
 ghost use Rattle.definitions.specs.LinkNumbers.{number_of};
 ghost use Rattle.states.specs.Numbers.{state_number};
+ghost use Rattle.refusals.specs.declared.layer.Layer.TheVariants.{Keeper, Session, Engine};
 ghost use Rattle.refusals.specs.Refusals.{refusal, of_state, of_alloc, of_relay, of_keeper, of_session};
 ghost use Rattle.refusals.specs.Told.{tells, told};
 
 use crate::errors::{AllocLinkError, Error, LinkRelayError, SessionInnerError, SessionStateError};
+use crate::layer::Layer;
 use definitions::link_number::LinkNumber;
 use definitions::numbers::InputHandle;
 use rows::answers::KeeperError;
 use states::state::SessionState;
 
-/// A refusal by its number, the layer that refuses (1 keeper, 2 session, 3 engine), and its subject.
-#[derive(Clone, Copy)]
+/// A refusal by its number, the layer that refuses, and its subject.
+#[derive(Clone, Copy, PartialEq, Eq, Debug)]
 pub struct Told {
     pub number: u8,
-    pub layer: u8,
+    pub layer: Layer,
     pub subject: u64,
 }
 
@@ -90,37 +92,37 @@ fn of_keeper(e: KeeperError) -> Told
 }
 
 fn by_engine(number: u8, state: SessionState) -> Told
-    ensures { result ≡ told number 3 (state_number state) }
+    ensures { result ≡ told number Engine (state_number state) }
 {
     Told {
         number,
-        layer: 3,
+        layer: Layer::Engine,
         subject: u64::from(state.number()),
     }
 }
 
 fn by_session(number: u8, subject: u64) -> Told
-    ensures { result ≡ told number 2 subject }
+    ensures { result ≡ told number Session subject }
 {
     Told {
         number,
-        layer: 2,
+        layer: Layer::Session,
         subject,
     }
 }
 
 fn by_handle(number: u8, handle: InputHandle) -> Told
-    ensures { result ≡ told number 2 handle.0 }
+    ensures { result ≡ told number Session handle.0 }
 {
     by_session(number, u64::from(handle.0))
 }
 
 fn by_keeper(number: u8, link: LinkNumber) -> Told
-    ensures { result ≡ told number 1 (number_of link) }
+    ensures { result ≡ told number Keeper (number_of link) }
 {
     Told {
         number,
-        layer: 1,
+        layer: Layer::Keeper,
         subject: u64::from(link.get()),
     }
 }

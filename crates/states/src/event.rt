@@ -2,7 +2,7 @@
 use crate::state::SessionState;
 
 /// What happens to a session: the columns of the table.
-#[derive(Clone, Copy)]
+#[derive(Clone, Copy, PartialEq, Eq, Debug)]
 pub enum SessionEvent {
     OurBegin,
     OurEnd,
@@ -15,7 +15,7 @@ pub enum SessionEvent {
 }
 
 /// What the table says of an event.
-#[derive(Clone, Copy)]
+#[derive(Clone, Copy, PartialEq, Eq, Debug)]
 pub enum Verdict {
     /// It must not happen.
     No,

@@ -4,7 +4,7 @@ ghost use Rattle.states.specs.Numbers.{state_number};
 
 /// How far a session has come (Part 2, 2.5.5). The crate's state `EndReceived` lasts no longer than a call,
 /// and its `Unmapped` after an end is `Stopped` here: a session that has ended does not begin again.
-#[derive(Clone, Copy)]
+#[derive(Clone, Copy, PartialEq, Eq, Debug)]
 pub enum SessionState {
     Unmapped,
     BeginSent,
@@ -20,14 +20,6 @@ impl SessionState {
     pub fn number(self) -> u8
         ensures { result ≡ state_number self }
     {
-        match self {
-            SessionState::Unmapped => 0,
-            SessionState::BeginSent => 1,
-            SessionState::BeginReceived => 2,
-            SessionState::Mapped => 3,
-            SessionState::EndSent => 4,
-            SessionState::Discarding => 5,
-            SessionState::Stopped => 6,
-        }
+        self as u8
     }
 }

@@ -75,22 +75,16 @@ impl SessionState {
     pub fn advance(&mut self, event: SessionEvent, condition: ErrorCondition)
         ensures { self.new ≡ next self.old event condition }
     {
-        match (*self, event) {
-            (SessionState::Unmapped, SessionEvent::OurBegin) => *self = SessionState::BeginSent,
-            (SessionState::Unmapped, SessionEvent::PeerBegin) => *self =
-                SessionState::BeginReceived,
+        *self = match (*self, event) {
+            (SessionState::Unmapped, SessionEvent::OurBegin) => SessionState::BeginSent,
+            (SessionState::Unmapped, SessionEvent::PeerBegin) => SessionState::BeginReceived,
             (SessionState::BeginSent, SessionEvent::PeerBegin)
-            | (SessionState::BeginReceived, SessionEvent::OurBegin) => *self = SessionState::Mapped,
-            (SessionState::Mapped, SessionEvent::OurEnd) => {
-                *self = if condition == 0 {
-                    SessionState::EndSent
-                } else {
-                    SessionState::Discarding
-                };
-            }
-            (SessionState::Unmapped, SessionEvent::PeerEnd) => {}
-            (_, SessionEvent::PeerEnd) => *self = SessionState::Stopped,
-            _ => {}
-        }
+            | (SessionState::BeginReceived, SessionEvent::OurBegin) => SessionState::Mapped,
+            (SessionState::Mapped, SessionEvent::OurEnd) if condition == 0 => SessionState::EndSent,
+            (SessionState::Mapped, SessionEvent::OurEnd) => SessionState::Discarding,
+            (SessionState::Unmapped, SessionEvent::PeerEnd) => SessionState::Unmapped,
+            (_, SessionEvent::PeerEnd) => SessionState::Stopped,
+            (state, _) => state,
+        };
     }
 }

@@ -12,11 +12,8 @@ impl<const N: usize> Octets<N> {
     {
         let mut bytes = [0u8; N];
         let len = text.len();
-        if len > N {
-            return Octets { bytes, len };
-        }
-        for i in 0..len {
-            bytes[i] = text[i];
+        if len <= N {
+            bytes[..len].copy_from_slice(text);
         }
         Octets { bytes, len }
     }
@@ -39,11 +36,6 @@ impl<const N: usize> Octets<N> {
     pub fn as_slice(&self) -> &[u8]
         ensures { result.now ≡ bytes_in self.now }
     {
-        let all = &self.bytes[..];
-        if self.len <= N {
-            &all[0..self.len]
-        } else {
-            &all[0..0]
-        }
+        self.bytes.get(..self.len).unwrap_or(&[])
     }
 }
