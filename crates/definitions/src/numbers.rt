@@ -16,7 +16,7 @@ pub struct OutputHandle(pub u32);
 pub struct InputHandle(pub u32);
 
 impl From<OutputHandle> for Handle {
-    ghost from_gives = { λ ours handle. handle.0 ≡ ours.0 };
+    ghost from_gives = { λ ours handle. handle ≡ record { 0 = ours.0 } };
 
     fn from(ours: OutputHandle) -> Handle {
         Handle(ours.0)
@@ -24,7 +24,7 @@ impl From<OutputHandle> for Handle {
 }
 
 impl From<Handle> for InputHandle {
-    ghost from_gives = { λ handle theirs. theirs.0 ≡ handle.0 };
+    ghost from_gives = { λ handle theirs. theirs ≡ record { 0 = handle.0 } };
 
     fn from(handle: Handle) -> InputHandle {
         InputHandle(handle.0)

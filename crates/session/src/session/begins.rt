@@ -6,7 +6,6 @@ ghost use Rattle.session.specs.Queues.{no_queue};
 ghost use Rattle.session.specs.Views.{view, answered, OnWire};
 
 use super::Session;
-use crate::queues::put;
 use definitions::numbers::IncomingChannel;
 use frames::performatives::Begin;
 use frames::session::SessionFrame;
@@ -23,7 +22,7 @@ impl<K: Keeper> Session<K> {
     ) -> Result<(), SessionInnerError>
         ensures { OnWire K.Keeper (view self.old) wire.old our_begin (answered (λ _. done) result) (view self.new) wire.new }
     {
-        put(wire, self.begin())?;
+        self.send(self.begin(), wire)?;
         self.local_state.advance(SessionEvent::OurBegin, 0);
         Ok(())
     }

@@ -6,7 +6,6 @@ ghost use Rattle.endpoint.specs.Stops.{stop_pair};
 ghost use Rattle.session.specs.Views.{endpoint_of, view, answered, OnWire};
 
 use super::Session;
-use crate::queues::put;
 use definitions::numbers::ErrorCondition;
 use endpoint::answers::SessionStopReason;
 use frames::performatives::End;
@@ -26,7 +25,7 @@ impl<K: Keeper> Session<K> {
     ) -> Result<(), SessionInnerError>
         ensures { OnWire K.Keeper (view self.old) wire.old (our_end condition) (answered (λ _. done) result) (view self.new) wire.new }
     {
-        put(wire, self.frame(SessionFrameBody::End(End { condition })))?;
+        self.send(SessionFrameBody::End(End { condition }), wire)?;
         self.local_state.advance(SessionEvent::OurEnd, condition);
         Ok(())
     }
@@ -42,10 +41,7 @@ impl<K: Keeper> Session<K> {
         let reason = if self.has_ended() {
             SessionStopReason::Ended(condition)
         } else {
-            put(
-                wire,
-                self.frame(SessionFrameBody::End(End { condition: 0 })),
-            )?;
+            self.send(SessionFrameBody::End(End { condition: 0 }), wire)?;
             SessionStopReason::RemoteEnded(condition)
         };
         self.session_stop_reason = Some(reason);
@@ -57,23 +53,17 @@ impl<K: Keeper> Session<K> {
     fn has_ended(&self) -> bool
         ensures { result ≡ ended_by_us (endpoint_of self.now).state }
     {
-        match self.local_state {
-            SessionState::EndSent | SessionState::Discarding => true,
-            SessionState::Unmapped
-            | SessionState::BeginSent
-            | SessionState::BeginReceived
-            | SessionState::Mapped
-            | SessionState::Stopped => false,
-        }
+        matches!(
+            self.local_state,
+            SessionState::EndSent | SessionState::Discarding
+        )
     }
 
     /// Why the session stopped, by its number, and the condition of the peer's end; both 0 before.
     pub(crate) fn stop_reason(&self) -> (u8, ErrorCondition)
         ensures { result ≡ stop_pair (endpoint_of self.now).stop }
     {
-        match self.session_stop_reason {
-            Some(reason) => reason.numbers(),
-            None => (0, 0),
-        }
+        self.session_stop_reason
+            .map_or((0, 0), SessionStopReason::numbers)
     }
 }

@@ -7,7 +7,7 @@ ghost use Rattle.session.specs.Queues.{no_queue, Fits};
 ghost use Rattle.session.specs.Views.{view, answered, OnWire, ToLinks};
 
 use super::Session;
-use crate::queues::{put, tell};
+use crate::queues::put;
 use definitions::numbers::{InputHandle, OutputHandle};
 use frames::link::{LinkFrame, LinkItem};
 use frames::performatives::Attach;
@@ -48,8 +48,7 @@ impl<K: Keeper> Session<K> {
         ensures { OnWire K.Keeper (view self.old) wire.old (our_attach attach) (answered (λ _. done) result) (view self.new) wire.new }
     {
         fits(attach.name)?;
-        put(wire, self.frame(SessionFrameBody::Attach(attach)))?;
-        Ok(())
+        self.send(SessionFrameBody::Attach(attach), wire)
     }
 
     /// Puts the link that has the name of the peer's attach under the peer's handle, and tells the link.
@@ -61,10 +60,14 @@ impl<K: Keeper> Session<K> {
         ensures { ToLinks K.Keeper (view self.old) items.old (peer_attach attach) (answered (λ _. done) result) (view self.new) items.new }
     {
         fits(attach.name)?;
-        let handle = InputHandle(attach.handle.0);
+        let handle = InputHandle::from(attach.handle);
         let link = self.links.attachable(attach.name, handle)?;
         let frame = LinkFrame::Attach(attach);
-        tell(items, LinkItem { link, frame })?;
+        put(
+            items,
+            LinkItem { link, frame },
+            SessionInnerError::LinkShort,
+        )?;
         self.links.attach(link, handle, attach.rcv_settle_mode);
         Ok(())
     }
