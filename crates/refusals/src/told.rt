@@ -1,17 +1,13 @@
 //! What a user is told of a refusal.
 ghost use Rattle.std.specs.Prelude.{◌≡◌};
-ghost use Rattle.definitions.specs.LinkNumbers.{number_of};
-ghost use Rattle.states.specs.Numbers.{state_number};
-ghost use Rattle.refusals.specs.declared.layer.Layer.TheVariants.{Keeper, Session, Engine};
+ghost use Rattle.refusals.specs.declared.layer.Layer.TheVariants.{Session};
 ghost use Rattle.refusals.specs.Refusals.{refusal, of_state, of_alloc, of_relay, of_keeper, of_session};
 ghost use Rattle.refusals.specs.Told.{tells, told};
 
 use crate::errors::{AllocLinkError, Error, LinkRelayError, SessionInnerError, SessionStateError};
 use crate::layer::Layer;
-use definitions::link_number::LinkNumber;
 use definitions::numbers::InputHandle;
 use rows::answers::KeeperError;
-use states::state::SessionState;
 
 /// A refusal by its number, the layer that refuses, and its subject.
 #[derive(Clone, Copy, PartialEq, Eq, Debug)]
@@ -36,10 +32,15 @@ impl Error {
 fn of_state(e: SessionStateError) -> Told
     ensures { result ≡ tells (of_state e) }
 {
-    match e {
-        SessionStateError::Stopped(state) => by_engine(1, state),
-        SessionStateError::IllegalState(state) => by_engine(2, state),
-        SessionStateError::SessionNotMapped(state) => by_engine(3, state),
+    let (number, state) = match e {
+        SessionStateError::Stopped(state) => (1, state),
+        SessionStateError::IllegalState(state) => (2, state),
+        SessionStateError::SessionNotMapped(state) => (3, state),
+    };
+    Told {
+        number,
+        layer: Layer::Engine,
+        subject: u64::from(state.number()),
     }
 }
 
@@ -85,19 +86,14 @@ fn of_relay(e: LinkRelayError) -> Told
 fn of_keeper(e: KeeperError) -> Told
     ensures { result ≡ tells (of_keeper e) }
 {
-    match e {
-        KeeperError::RowOpen(link) => by_keeper(14, link),
-        KeeperError::NoPlace(link) => by_keeper(17, link),
-    }
-}
-
-fn by_engine(number: u8, state: SessionState) -> Told
-    ensures { result ≡ told number Engine (state_number state) }
-{
+    let (number, link) = match e {
+        KeeperError::RowOpen(link) => (14, link),
+        KeeperError::NoPlace(link) => (17, link),
+    };
     Told {
         number,
-        layer: Layer::Engine,
-        subject: u64::from(state.number()),
+        layer: Layer::Keeper,
+        subject: u64::from(link.get()),
     }
 }
 
@@ -115,14 +111,4 @@ fn by_handle(number: u8, handle: InputHandle) -> Told
     ensures { result ≡ told number Session handle.0 }
 {
     by_session(number, u64::from(handle.0))
-}
-
-fn by_keeper(number: u8, link: LinkNumber) -> Told
-    ensures { result ≡ told number Keeper (number_of link) }
-{
-    Told {
-        number,
-        layer: Layer::Keeper,
-        subject: u64::from(link.get()),
-    }
 }
