@@ -49,6 +49,7 @@ pub type DeliveryNumber = u32;
 pub type SequenceNo = u32;
 
 /// The condition of an error, by its number; 0 is no error.
+// A number and no `Option`: an application numbers its conditions, and gives 0 where it has none.
 pub type ErrorCondition = u16;
 
 /// Which end of a link speaks (Part 2, 2.8.1).
@@ -75,6 +76,7 @@ pub enum ReceiverSettleMode {
 }
 
 /// How a delivery stands at the receiver (Part 3, 3.4). `None` is the absence of a state.
+// A variant and no `Option`: the states are numbered, none among them.
 #[derive(Clone, Copy, PartialEq, Eq, Debug)]
 pub enum DeliveryState {
     None,
@@ -97,12 +99,12 @@ impl DeliveryState {
     pub fn is_terminal(self) -> bool
         ensures { result ≡ terminal self }
     {
-        match self {
-            DeliveryState::None | DeliveryState::Received => false,
+        matches!(
+            self,
             DeliveryState::Accepted
-            | DeliveryState::Rejected
-            | DeliveryState::Released
-            | DeliveryState::Modified => true,
-        }
+                | DeliveryState::Rejected
+                | DeliveryState::Released
+                | DeliveryState::Modified
+        )
     }
 }
