@@ -1,27 +1,26 @@
 -- How a line is read as words: a verb, and after it values by key and flags. A space is the byte 32, and '=' is 61.
-use Rattle.std.specs.Prelude.{◌≡◌, ℕ, suc, ◌<◌, Bool, false, cond, not, ◌&&◌, ◌||◌, List, [], ◌∷◌, length, Some, None, Option, ◌==◌}
+use Rattle.std.specs.Prelude.{ℕ, ◌+◌, Bool, cond, not, ◌&&◌, List, [], ◌∷◌, Some, None, Option, ◌==◌, take, drop}
+use Rattle.std.specs.List.{before_first, list_any, position_or_len}
 use Rattle.std.specs.Option.{option_or}
 use Rattle.std.specs.Str.{bytes_eq}
-
--- the place of the first b, or the length of a text that has none
-abbrev pub place_of : ℕ → List ℕ → ℕ
-place_of b [] = 0
-place_of b (c ∷ cs) = cond (c == b) 0 (suc (place_of b cs))
+use Rattle.lines.specs.declared.words.Words.{Words}
 
 -- the first word of a text: what stands before its first space
 abbrev pub first_word : List ℕ → List ℕ
-first_word [] = []
-first_word (c ∷ cs) = cond (c == 32) [] (c ∷ first_word cs)
+first_word text = before_first (λ c. c == 32) text
 
 -- what stands from the first space on
 abbrev pub from_space : List ℕ → List ℕ
-from_space [] = []
-from_space (c ∷ cs) = cond (c == 32) (c ∷ cs) (from_space cs)
+from_space text = drop (position_or_len (λ c. c == 32) text) text
 
 -- the other words: each space begins one, an empty one where another space or the end follows
 abbrev pub later_words : List ℕ → List (List ℕ)
 later_words [] = []
 later_words (c ∷ cs) = cond (c == 32) (first_word cs ∷ later_words cs) (later_words cs)
+
+-- the words that are still to come
+abbrev pub words_left : Words → List (List ℕ)
+words_left s = later_words s.rest.now
 
 -- all words: the pieces between the spaces
 abbrev pub words : List ℕ → List (List ℕ)
@@ -41,25 +40,17 @@ value_in key (w ∷ ws) = option_or (value_of key w) (value_in key ws)
 
 -- whether w is one of the words
 abbrev pub among : List ℕ → List (List ℕ) → Bool
-among w [] = false
-among w (v ∷ vs) = bytes_eq w v || among w vs
+among w ws = list_any (bytes_eq w) ws
 
 -- what of a word says which key or which flag it is: a key up to its '=', with it, or the whole flag
 abbrev pub label : List ℕ → List ℕ
-label [] = []
-label (c ∷ cs) = c ∷ cond (c == 61) [] (label cs)
+label word = take (position_or_len (λ c. c == 61) word + 1) word
 
 -- whether one of the words has the label of w
 abbrev pub labelled : List ℕ → List (List ℕ) → Bool
-labelled w [] = false
-labelled w (v ∷ vs) = bytes_eq (label w) (label v) || labelled w vs
+labelled w ws = list_any (λ v. bytes_eq (label w) (label v)) ws
 
 -- the first word with a label that the form's words lack, or that a later word has again
 abbrev pub stray : List (List ℕ) → List (List ℕ) → Option (List ℕ)
 stray form [] = None
 stray form (w ∷ ws) = cond (labelled w form && not (labelled w ws)) (stray form ws) (Some w)
-
--- the first of the later words of a text is word, and the others are those of rest
-pub record Next (text word rest : List ℕ) : Type 0 where
-  pub splits : later_words text ≡ word ∷ later_words rest
-  pub shorter : length rest < length text

@@ -18,7 +18,7 @@ ghost use Rattle.lines.specs.Words.{first_word, later_words, value_in, among, st
 
 mod words;
 
-use words::{cut, labelled, next_word, same, value_of};
+use words::{Words, cut, labelled, value_of};
 
 /// The text of one line, without its end.
 #[derive(Clone, Copy)]
@@ -45,28 +45,14 @@ impl<'a> Line<'a> {
     pub fn value(&self, key: &[u8]) -> Option<&'a [u8]>
         ensures { option_map (λ x. x.now) result ≡ value_in key.now (later_words self.now.text.now) }
     {
-        let mut rest = self.text;
-        while let Some((word, more)) = next_word(rest) {
-            if let Some(value) = value_of(key, word) {
-                return Some(value);
-            }
-            rest = more;
-        }
-        None
+        Words::new(self.text).find_map(|word| value_of(key, word))
     }
 
     /// Whether `word` stands after the verb.
     pub fn flag(&self, word: &[u8]) -> bool
         ensures { result ≡ among word.now (later_words self.now.text.now) }
     {
-        let mut rest = self.text;
-        while let Some((next, more)) = next_word(rest) {
-            if same(word, next) {
-                return true;
-            }
-            rest = more;
-        }
-        false
+        Words::new(self.text).any(|next| word == next)
     }
 
     /// The first word after the verb that `form` lacks, or that stands again later. A form is written as a
@@ -74,12 +60,12 @@ impl<'a> Line<'a> {
     pub fn stray(&self, form: &[u8]) -> Option<&'a [u8]>
         ensures { option_map (λ x. x.now) result ≡ stray (later_words form.now) (later_words self.now.text.now) }
     {
-        let mut rest = self.text;
-        while let Some((word, more)) = next_word(rest) {
-            if !labelled(word, form) || labelled(word, more) {
+        // A `while let`, since each word is held against those after it.
+        let mut words = Words::new(self.text);
+        while let Some(word) = words.next() {
+            if !labelled(word, Words::new(form)) || labelled(word, words) {
                 return Some(word);
             }
-            rest = more;
         }
         None
     }
