@@ -1,5 +1,6 @@
 -- The numbers and bytes that a text writes in digits.
-use Rattle.std.specs.Prelude.{ℕ, ◌+◌, ◌-◌, ◌*◌, cond, List, [], ◌∷◌, Some, None, Option, nat_le}
+use Rattle.std.specs.Prelude.{ℕ, ◌+◌, ◌-◌, ◌*◌, cond, List, [], ◌∷◌, Some, None, Option, nat_lt, nat_le, slice_index, unwrap_or}
+use Rattle.std.specs.Char.{digit_value}
 use Rattle.std.specs.Option.{option_map, option_zip}
 use Rattle.std.specs.Int.{is_in_range}
 
@@ -20,11 +21,19 @@ up_to most (Some n) = cond (nat_le n most) (Some n) None
 
 -- the number of a hexadecimal digit: '0' to '9', 'A' to 'F' or 'a' to 'f'
 abbrev pub nibble : ℕ → Option ℕ
-nibble c = cond (is_in_range 48 57 c) (Some (c - 48)) (cond (is_in_range 65 70 c) (Some (c - 65 + 10)) (cond (is_in_range 97 102 c) (Some (c - 97 + 10)) None))
+nibble c = cond (nat_lt (digit_value c) 16) (Some (digit_value c)) None
 
 -- the byte that two such digits write
 abbrev pub octet : ℕ → ℕ → Option ℕ
 octet high low = option_map (λ p. p.0 * 16 + p.1) (option_zip (nibble high) (nibble low))
+
+-- the byte that a pair of digits writes
+abbrev pub octet_of : List ℕ → Option ℕ
+octet_of pair = octet (slice_index pair 0) (slice_index pair 1)
+
+-- the same, and 0 where the pair writes none
+abbrev pub byte_of : List ℕ → ℕ
+byte_of pair = unwrap_or (octet_of pair) 0
 
 -- the bytes that a text of such pairs writes
 abbrev pub hexadecimal : List ℕ → Option (List ℕ)

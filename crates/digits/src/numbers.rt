@@ -1,22 +1,17 @@
 //! Reads digits as a number or as bytes.
 
-ghost use Rattle.std.specs.Prelude.{◌≡◌, ◌+◌, ◌*◌, ◌<◌, true, [], ◌∷◌, length, is_some, slice_index};
+ghost use Rattle.std.specs.Prelude.{◌≡◌, ◌∷◌, [], length, map, is_some, IsTrue, IfSome};
+ghost use Rattle.std.specs.List.{list_all};
 ghost use Rattle.std.specs.Option.{option_map, unwrap_or};
-ghost use Rattle.digits.specs.Numbers.{decimal_after, decimal, up_to, nibble, octet, hexadecimal, laid};
+ghost use Rattle.digits.specs.Numbers.{decimal_after, decimal, up_to, octet_of, byte_of, hexadecimal, laid};
 
 /// `n` with one more digit, if that is at most `most`.
 fn with_digit(n: u64, digit: u8, most: u64) -> Option<u64>
     ensures { result ≡ up_to most (decimal_after n (digit ∷ [])) }
 {
-    if !digit.is_ascii_digit() {
-        return None;
-    }
-    let next = u128::from(n) * 10 + u128::from(digit - b'0');
-    if next <= u128::from(most) {
-        Some(next as u64)
-    } else {
-        None
-    }
+    let digit = char::from(digit).to_digit(10)?;
+    let next = n.checked_mul(10)?.checked_add(u64::from(digit))?;
+    (next <= most).then_some(next)
 }
 
 /// The number that `text` writes in decimal digits, if it is one of at most `most`.
@@ -33,55 +28,42 @@ pub fn decimal(text: &[u8], most: u64) -> Option<u64>
     Some(n)
 }
 
-/// The number of a hexadecimal digit.
-fn nibble(digit: u8) -> Option<u8>
-    ensures { result ≡ nibble digit }
-{
-    match digit {
-        b'0'..=b'9' => Some(digit - b'0'),
-        b'A'..=b'F' => Some(digit - b'A' + 10),
-        b'a'..=b'f' => Some(digit - b'a' + 10),
-        _ => None,
-    }
-}
-
 /// The byte that two hexadecimal digits write.
-fn octet(high: u8, low: u8) -> Option<u8>
-    ensures { result ≡ octet high low }
+fn octet(digits: &[u8; 2]) -> Option<u8>
+    ensures { result ≡ octet_of digits.now }
 {
-    match (nibble(high), nibble(low)) {
-        (Some(high), Some(low)) => Some(high * 16 + low),
+    let [high, low] = *digits;
+    let high = char::from(high).to_digit(16)?;
+    let low = char::from(low).to_digit(16)?;
+    Some((high * 16 + low) as u8)
+}
+
+/// Whether each pair is one of hexadecimal digits.
+fn are_octets(pairs: &[[u8; 2]]) -> bool
+    ensures { result ≡ list_all (λ pair. is_some (octet_of pair)) pairs.now }
+{
+    pairs.iter().all(|pair| octet(pair).is_some())
+}
+
+/// The pairs that `text` is made of, if each is one of hexadecimal digits.
+fn digit_pairs(text: &[u8]) -> Option<&[[u8; 2]]>
+    ensures bytes { option_map (λ pairs. map byte_of pairs.now) result ≡ hexadecimal text.now }
+    ensures all { IfSome result (λ pairs. IsTrue (list_all (λ pair. is_some (octet_of pair)) pairs.now)) }
+{
+    match text.as_chunks::<2>() {
+        (pairs, []) if are_octets(pairs) => Some(pairs),
         _ => None,
     }
 }
 
-/// The byte that the pair of digits at `i` writes.
-fn octet_at(text: &[u8], i: usize) -> Option<u8>
-    requires { 2 * i + 1 < length text.now }
-    ensures { result ≡ octet (slice_index text.now (2 * i)) (slice_index text.now (2 * i + 1)) }
+/// Writes the bytes of the pairs to the front of `out`, as many as fit.
+fn lay(pairs: &[[u8; 2]], out: &mut [u8])
+    requires { IsTrue (list_all (λ pair. is_some (octet_of pair)) pairs.now) }
+    ensures { out.new ≡ laid (map byte_of pairs.now) out.old }
 {
-    octet(text[2 * i], text[2 * i + 1])
-}
-
-/// Whether `text` is of pairs of hexadecimal digits.
-fn is_hexadecimal(text: &[u8]) -> bool
-    ensures { result ≡ is_some (hexadecimal text.now) }
-{
-    for i in 0..text.len() / 2 {
-        if octet_at(text, i).is_none() {
-            return false;
-        }
-    }
-    text.len() % 2 == 0
-}
-
-/// Writes the bytes to the front of `out`, as many as fit.
-fn lay(text: &[u8], out: &mut [u8])
-    requires { is_some (hexadecimal text.now) ≡ true }
-    ensures { out.new ≡ laid (unwrap_or (hexadecimal text.now) []) out.old }
-{
-    for i in 0..out.len().min(text.len() / 2) {
-        out[i] = octet_at(text, i).unwrap();
+    // By index, since after `out.iter_mut().zip(pairs)` a proof knows nothing of what was written.
+    for i in 0..out.len().min(pairs.len()) {
+        out[i] = octet(&pairs[i]).unwrap();
     }
 }
 
@@ -91,9 +73,7 @@ pub fn hexadecimal(text: &[u8], out: &mut [u8]) -> Option<usize>
     ensures count { result ≡ option_map length (hexadecimal text.now) }
     ensures written { out.new ≡ laid (unwrap_or (hexadecimal text.now) []) out.old }
 {
-    if !is_hexadecimal(text) {
-        return None;
-    }
-    lay(text, out);
-    Some(text.len() / 2)
+    let pairs = digit_pairs(text)?;
+    lay(pairs, out);
+    Some(pairs.len())
 }
