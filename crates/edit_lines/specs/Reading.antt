@@ -1,5 +1,6 @@
 -- What an edit's line says.
-use Rattle.std.specs.Prelude.{ℕ, Bool, true, cond, not, ◌&&◌, List, [], ◌∷◌, length, is_some, Some, None, Ok, Err, codes, Option, Result, ◌==◌, nat_le}
+use Rattle.std.specs.Prelude.{ℕ, Bool, cond, not, ◌&&◌, List, length, is_some, Some, None, Ok, Err, codes, Option, Result, ◌==◌, nat_le}
+use Rattle.std.specs.List.{list_all}
 use Rattle.std.specs.Option.{ok_or}
 use Rattle.std.specs.Int.{is_in_range}
 use Rattle.std.specs.Str.{bytes_eq}
@@ -30,6 +31,13 @@ abbrev pub mapped_ok : {X Y : Type 0} → (X → Y) → Result X Unreadable → 
 mapped_ok f (Ok x) = Ok (f x)
 mapped_ok f (Err why) = Err why
 
+-- the key under which a line has a field
+abbrev pub field_key : Field → List ℕ
+field_key Link = codes "link"
+field_key Tag = codes "tag"
+field_key Was = codes "was"
+field_key Now = codes "now"
+
 -- a field that has to be there, and has to be readable
 abbrev pub wanted : {X : Type 0} → Field → (List ℕ → Option X) → Option (List ℕ) → Result X Unreadable
 wanted field reads None = Err (Missing field)
@@ -45,8 +53,7 @@ abbrev pub printable : ℕ → Bool
 printable c = is_in_range 33 126 c && not (c == 34)
 
 abbrev pub all_printable : List ℕ → Bool
-all_printable [] = true
-all_printable (c ∷ cs) = printable c && all_printable cs
+all_printable text = list_all printable text
 
 -- a value, if each of its bytes can stand in one
 abbrev pub as_value : List ℕ → Option (List ℕ)
@@ -54,15 +61,15 @@ as_value text = cond (all_printable text) (Some text) None
 
 -- the link's number: decimal, at most 63
 abbrev pub link_in : List (List ℕ) → Result ℕ Unreadable
-link_in words = wanted Link (λ text. up_to 63 (decimal text)) (value_in (codes "link") words)
+link_in words = wanted Link (λ text. up_to 63 (decimal text)) (value_in (field_key Link) words)
 
 -- the delivery tag: hexadecimal, at most 32 bytes
 abbrev pub tag_in : List (List ℕ) → Result (List ℕ) Unreadable
-tag_in words = wanted Tag (λ text. short 32 (hexadecimal text)) (value_in (codes "tag") words)
+tag_in words = wanted Tag (λ text. short 32 (hexadecimal text)) (value_in (field_key Tag) words)
 
 -- a value
-abbrev pub text_in : Field → List ℕ → List (List ℕ) → Result (List ℕ) Unreadable
-text_in field key words = wanted field as_value (value_in key words)
+abbrev pub text_in : Field → List (List ℕ) → Result (List ℕ) Unreadable
+text_in field words = wanted field as_value (value_in (field_key field) words)
 
 -- the row: its link and its tag
 abbrev pub key_in : List (List ℕ) → Result Key Unreadable
@@ -82,4 +89,4 @@ row_in text =
 -- the values before and after
 abbrev pub change_in : List (List ℕ) → Result Changed Unreadable
 change_in words =
-    and_then (text_in Was (codes "was") words) (λ w. and_then (text_in Now (codes "now") words) (λ n. Ok (record { was = w; becomes = n })))
+    and_then (text_in Was words) (λ w. and_then (text_in Now words) (λ n. Ok (record { was = w; becomes = n })))

@@ -1,11 +1,10 @@
 //! The whole line of an edit, in two looks: which row it edits, and how the row's value changes.
 ghost use Rattle.std.specs.Prelude.{◌≡◌};
-ghost use Rattle.std.specs.Str.{bytes_eq};
 ghost use Rattle.lines.specs.Words.{later_words};
 ghost use Rattle.rows.specs.Keys.{key_of};
 ghost use Rattle.edit_lines.specs.Reading.{change_in, change_of, mapped_ok, row_in};
 
-use crate::fields::{link_of, tag_of, text_of};
+use crate::fields::{link_of, tag_of, value_of};
 use crate::unreadable::{Field, Unreadable};
 use lines::Line;
 use rows::row::Row;
@@ -22,7 +21,7 @@ pub fn read_row(text: &[u8]) -> Result<Row, Unreadable>
     ensures { mapped_ok key_of result ≡ row_in text.now }
 {
     let line = Line::new(text);
-    if !is_verb(line.verb(), b"edit") {
+    if line.verb() != b"edit".as_slice() {
         return Err(Unreadable::UnknownVerb);
     }
     if line.stray(b"edit link= tag= was= now=").is_some() {
@@ -30,17 +29,7 @@ pub fn read_row(text: &[u8]) -> Result<Row, Unreadable>
     }
     let link = link_of(&line)?;
     let tag = tag_of(&line)?;
-    match Row::new(link, tag) {
-        Some(row) => Ok(row),
-        None => Err(Unreadable::BadValue(Field::Tag)),
-    }
-}
-
-/// Whether a word is the verb.
-fn is_verb(word: &[u8], verb: &[u8]) -> bool
-    ensures { result ≡ bytes_eq word.now verb.now }
-{
-    word == verb
+    Row::new(link, tag).ok_or(Unreadable::BadValue(Field::Tag))
 }
 
 /// How the row's value changes, or why that cannot be read.
@@ -48,7 +37,7 @@ pub fn read_change(text: &[u8]) -> Result<Change<'_>, Unreadable>
     ensures { mapped_ok change_of result ≡ change_in (later_words text.now) }
 {
     let line = Line::new(text);
-    let was = text_of(&line, Field::Was, b"was")?;
-    let becomes = text_of(&line, Field::Now, b"now")?;
+    let was = value_of(&line, Field::Was)?;
+    let becomes = value_of(&line, Field::Now)?;
     Ok(Change { was, becomes })
 }
