@@ -1,13 +1,13 @@
 -- What the fickle keeper means.
 use Rattle.std.specs.Prelude.{◌≡◌, Bool, cond, Some, None, Option}
 use Rattle.rows.specs.Keys.{Key, key_of, same_key}
+use Rattle.rows.specs.declared.pending.PendingRow.{PendingRow}
 use Rattle.rows.specs.Meaning.{Stand, pending, free, full}
 use Rattle.fickle_keeper.specs.declared.fickle.FickleKeeper.{FickleKeeper}
-use Rattle.fickle_keeper.specs.declared.fickle.Held.{Held}
 
 -- How a row stands with what is held: the row that is held is pending, and no other has a place then; while
 -- nothing is held, every row has a place or none has.
-abbrev pub stood : Option Held → Bool → Key → Stand
+abbrev pub stood : Option PendingRow → Bool → Key → Stand
 stood (Some h) shut k = cond (same_key (key_of h.row) k) (pending h.state) full
 stood None shut k = cond shut full free
 

@@ -1,2 +1,2 @@
 pub mod Fickle
-pub mod Moves
+pub mod Restores

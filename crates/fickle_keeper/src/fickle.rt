@@ -4,22 +4,15 @@ ghost use Rattle.rows.specs.Keys.{Key, key_of};
 ghost use Rattle.rows.specs.Meaning.{free, is_pending};
 ghost use Rattle.fickle_keeper.specs.Fickle.{stand};
 
-use definitions::numbers::DeliveryState;
+use rows::pending::PendingRow;
 use rows::row::Row;
 
 pub mod keeps;
 
-/// A pending row.
-#[derive(Clone, Copy)]
-pub struct Held {
-    pub row: Row,
-    pub state: DeliveryState,
-}
-
 /// At most one row; while `shut`, no place for another.
 #[derive(Clone, Copy)]
 pub struct FickleKeeper {
-    held: Option<Held>,
+    held: Option<PendingRow>,
     shut: bool,
 }
 
@@ -38,9 +31,6 @@ impl FickleKeeper {
     fn holds(&self, row: Row) -> bool
         ensures { result ≡ is_pending (stand self.now (key_of row)) }
     {
-        match self.held {
-            Some(held) => held.row == row,
-            None => false,
-        }
+        self.held.is_some_and(|held| held.row == row)
     }
 }

@@ -1,4 +1,4 @@
-pub mod Firsts
+pub mod Finds
+pub mod Naming
 pub mod Loops
 pub mod Moves
-pub mod Naming

@@ -1,4 +1,3 @@
-pub mod Firsts
 pub mod Records
 pub mod Marking
 pub mod Restores

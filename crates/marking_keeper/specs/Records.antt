@@ -1,10 +1,9 @@
 -- Which row a record names, and what the calls of a keeper change in records.
-use Rattle.std.specs.Prelude.{ℕ, Bool, cond, ◌&&◌, List, None, Option, ◌==◌, nat_le}
+use Rattle.std.specs.Prelude.{ℕ, Bool, cond, ◌&&◌, List, [], ◌∷◌, None, Option, ◌==◌, nat_le}
 use Rattle.definitions.specs.declared.numbers.DeliveryState.{DeliveryState}
 use Rattle.names.specs.Octets.{bytes_in}
 use Rattle.rows.specs.Keys.{Key, same_key}
 use Rattle.marking_keeper.specs.declared.record.Record.{Record}
-use Rattle.marking_keeper.specs.Firsts.{changed}
 
 -- what the record has of a row
 abbrev pub key_in : Record → Key
@@ -21,6 +20,11 @@ marked m x = record { link = x.link; tag = x.tag; mark = m }
 
 abbrev pub unmarked : Record → Record
 unmarked = marked None
+
+-- the list with f x in place of the first x that passes the test, and nothing else changed
+abbrev pub changed : {X : Type 0} → (X → Bool) → (X → X) → List X → List X
+changed test f [] = []
+changed test f (x ∷ xs) = cond (test x) (f x ∷ xs) (x ∷ changed test f xs)
 
 -- the records with the mark m on the first that names the row, and else as they are
 abbrev pub remarked : Key → Option DeliveryState → List Record → List Record

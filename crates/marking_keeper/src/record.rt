@@ -21,14 +21,12 @@ pub struct Record {
 
 impl Record {
     /// Whether the record names the row.
-    pub(crate) fn names(&self, row: &Row) -> bool
-        ensures { result ≡ naming (key_of row.now) self.now }
+    pub(crate) fn names(&self, row: Row) -> bool
+        ensures { result ≡ naming (key_of row) self.now }
     {
         // A tag that is too long holds no bytes, and would pass for an empty one.
-        if !self.tag.fits() {
-            return false;
-        }
-        let tag = row.tag();
-        self.link == u32::from(row.link().get()) && self.tag.as_slice() == tag.as_slice()
+        self.tag.fits()
+            && self.link == u32::from(row.link().get())
+            && self.tag.as_slice() == row.tag().as_slice()
     }
 }

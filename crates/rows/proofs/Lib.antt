@@ -1,4 +1,1 @@
-pub mod Distinct
 pub mod Keys
-pub mod Links
-pub mod Rows

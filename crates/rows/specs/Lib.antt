@@ -1,4 +1,3 @@
 pub mod Keys
 pub mod Meaning
 pub mod Reply
-pub mod Rows

@@ -13,7 +13,7 @@ pub enum Standing {
 }
 
 /// Why a keeper refuses a row, with the row's link.
-#[derive(Clone, Copy, Debug)]
+#[derive(Clone, Copy, PartialEq, Eq, Debug)]
 pub enum KeeperError {
     /// The row is pending already.
     RowOpen(LinkNumber),

@@ -7,6 +7,7 @@
 //! - [`row`]: a row, made of a link number and a tag that fits.
 //! - [`answers`]: what a keeper answers.
 //! - [`keeper`]: the trait, with what every keeper must show, and no more.
+//! - [`pending`]: what keepers hold of a row that is pending.
 //! - [`reply`]: the answer to a link's flow that the keepers of this repository give.
 //!
 //! What the trait says is in `specs/Meaning.antt`; read that first.
@@ -15,5 +16,6 @@
 
 pub mod answers;
 pub mod keeper;
+pub mod pending;
 pub mod reply;
 pub mod row;

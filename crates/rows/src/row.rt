@@ -9,7 +9,7 @@ pub mod methods;
 
 /// A link number and a delivery tag of at most 32 bytes. Nothing else is a row, and nothing else can be
 /// made one.
-#[derive(Clone, Copy)]
+#[derive(Clone, Copy, Debug)]
 pub struct Row {
     link: LinkNumber,
     tag: DeliveryTag,

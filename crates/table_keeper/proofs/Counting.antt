@@ -1,45 +1,42 @@
 -- The slots of a table count its pending rows, and so decide what `ask` answers.
-use Rattle.std.proofs.Common.{◌≡◌, ℕ, Bool, true, false, cond, ltb, Some, None, Option, sym, refl, ◌∙◌}
-use Rattle.std.proofs.lemmas.Bool.{both_ways}
+use Rattle.std.proofs.Common.{◌≡◌, ℕ, true, sym, ◌∙◌, arith}
 use Rattle.std.proofs.lemmas.List.{length-map}
-use Rattle.definitions.specs.declared.numbers.DeliveryState.{DeliveryState}
+use Rattle.std.proofs.lemmas.Map.Made.{IsDistinct-from_AllPairs, length-from_same_keys}
 use Rattle.rows.specs.declared.answers.Standing.{Standing}
-use Rattle.rows.specs.declared.answers.Standing.TheVariants.{Pending, Place, Neither}
 use Rattle.rows.specs.Keys.{Key}
-use Rattle.rows.specs.Meaning.{is_pending, standing}
-use Rattle.rows.proofs.Distinct.{same_length}
+use Rattle.rows.specs.Meaning.{standing}
+use Rattle.rows.proofs.Keys.{same_key-Decides, same_key-laws}
 use Rattle.table_keeper.specs.declared.table.TableKeeper.{TableKeeper}
 use Rattle.table_keeper.specs.Counts.{Counts, answered}
 use Rattle.table_keeper.specs.Slots.{key_in, keys_in}
-use Rattle.table_keeper.specs.Table.{slots_of, size, held, stood, stand}
-use Rattle.table_keeper.specs.Moves.{pending-has}
+use Rattle.table_keeper.specs.Table.{slots_of, size, stand}
+use Rattle.table_keeper.proofs.Moves.{pending-held}
+use Rattle.table_keeper.proofs.Slots.{member_is}
 
 -- There are as many pending rows as slots,
 pub counted : (s : TableKeeper) → Counts (stand s) (size s)
-counted s = record { keys = keys_in (slots_of s); apart = s.apart; exact = λ k. sym (pending-has s k); long = length-map (slots_of s) key_in ∙ sym s.slots.ok.0 }
+counted s = record {
+  keys = keys_in (slots_of s);
+  apart = s.apart;
+  exact = λ k. member_is k (slots_of s) ∙ sym (pending-held s k);
+  long = length-map (slots_of s) key_in ∙ sym s.slots.ok.0;
+}
 
 -- and no other number of them.
-count_is : (s : TableKeeper) (n : ℕ) → Counts (stand s) n → n ≡ size s
+pub count_is : (s : TableKeeper) (n : ℕ) → Counts (stand s) n → n ≡ size s
 count_is s n c =
     let m = counted s in
-    sym c.long ∙ same_length c.keys m.keys c.apart m.apart (λ k. c.exact k ∙ sym (m.exact k)) ∙ m.long
-
--- Each standing has one answer.
-answer_is : (r : Standing) (o : Option DeliveryState) (room : Bool) → (standing r).given (stood o room) ≡ true → r ≡ cond (is_pending (stood o room)) Pending (cond room Place Neither)
-answer_is Pending (Some v) room e = refl
-answer_is Pending None true e = absurd (both_ways false refl e)
-answer_is Pending None false e = absurd (both_ways false refl e)
-answer_is Place (Some v) room e = absurd (both_ways false refl e)
-answer_is Place None true e = refl
-answer_is Place None false e = absurd (both_ways false refl e)
-answer_is Neither (Some v) room e = absurd (both_ways false refl e)
-answer_is Neither None true e = absurd (both_ways false refl e)
-answer_is Neither None false e = refl
+    sym c.long
+    ∙ length-from_same_keys same_key-laws c.keys m.keys
+    (IsDistinct-from_AllPairs same_key-Decides c.keys c.apart)
+    (IsDistinct-from_AllPairs same_key-Decides m.keys m.apart)
+    (λ k. c.exact k ∙ sym (m.exact k))
+    ∙ m.long
 
 -- what `ask` ensures of its answer
 abbrev pub Told : TableKeeper → Key → Standing → Type 0
 Told s k r = record { stands : (standing r).given (stand s k) ≡ true; places : (n : ℕ) → Counts (stand s) n → r ≡ answered (stand s k) n }
 
--- The answer that is given at the row's standing is the one by the number of pending rows.
+-- The answer that is given at a row's standing is the one by the number of pending rows.
 pub told : (s : TableKeeper) (k : Key) (r : Standing) → (standing r).given (stand s k) ≡ true → Told s k r
-told s k r e = record { stands = e; places = λ n c. rw (count_is s n c) (answer_is r (held s k) (ltb (size s) 256) e) }
+told s k r e = record { stands = e; places = λ n c. let m = count_is s n c in grind arith }

@@ -3,12 +3,11 @@ use Rattle.std.specs.Prelude.{◌≡◌, ℕ, ◌+◌, Bool, true, false, List, 
 use Rattle.definitions.specs.declared.numbers.DeliveryState.{DeliveryState}
 use Rattle.rows.specs.Keys.{Key}
 use Rattle.rows.specs.Meaning.{Stand, pending, free, full}
-use Rattle.rows.specs.Rows.{lookup}
-use Rattle.table_keeper.specs.declared.slot.Slot.{Slot}
+use Rattle.rows.specs.declared.pending.PendingRow.{PendingRow}
 use Rattle.table_keeper.specs.declared.table.TableKeeper.{TableKeeper}
-use Rattle.table_keeper.specs.Slots.{key_in, state_in}
+use Rattle.table_keeper.specs.Slots.{state_in}
 
-abbrev pub slots_of : TableKeeper → List Slot
+abbrev pub slots_of : TableKeeper → List PendingRow
 slots_of t = vec_items t.slots
 
 -- how many slots the table has
@@ -17,7 +16,7 @@ size t = vec_len t.slots
 
 -- the state in the slot of the row
 abbrev pub held : TableKeeper → Key → Option DeliveryState
-held t k = lookup key_in state_in k (slots_of t)
+held t k = state_in k (slots_of t)
 
 -- A row with a slot is pending; one without has a place, if there is room for one more.
 abbrev pub stood : Option DeliveryState → Bool → Stand

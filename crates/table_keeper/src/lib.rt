@@ -11,5 +11,4 @@
 
 #![tactic(auto)]
 
-mod slot;
 pub mod table;

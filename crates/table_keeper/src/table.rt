@@ -1,9 +1,8 @@
 //! The table.
-ghost use Rattle.std.specs.Prelude.{◌≡◌, ◌≤◌, true, vec_len, vec_capacity};
-ghost use Rattle.rows.specs.Rows.{distinct};
+ghost use Rattle.std.specs.Prelude.{◌≤◌, ◌≢◌, AllPairs, vec_len, vec_capacity};
 ghost use Rattle.table_keeper.specs.Slots.{keys_in};
 
-use crate::slot::Slot;
+use rows::pending::PendingRow;
 
 pub mod keeps;
 pub mod methods;
@@ -14,8 +13,8 @@ pub const PLACES: usize = 256;
 /// At most 256 pending rows, no row twice, in memory that has room for all of them.
 #[derive(Drop)]
 pub struct TableKeeper {
-    slots: Vec<Slot>,
+    slots: Vec<PendingRow>,
     ghost reserved: { 256 ≤ vec_capacity slots },
     ghost few: { vec_len slots ≤ 256 },
-    ghost apart: { distinct (keys_in slots.items) ≡ true },
+    ghost apart: { AllPairs (λ j k. j ≢ k) (keys_in slots.items) },
 }

@@ -2,14 +2,15 @@
 ghost use Rattle.std.specs.Prelude.{◌≡◌, None};
 ghost use Rattle.rows.specs.Meaning.{Same};
 ghost use Rattle.fickle_keeper.specs.Fickle.{stand, Pledges, Settles};
-ghost use Rattle.fickle_keeper.specs.Moves;
+ghost use Rattle.fickle_keeper.specs.Restores;
 
-use super::{FickleKeeper, Held};
+use super::FickleKeeper;
 use definitions::link_number::LinkNumber;
 use definitions::numbers::{DeliveryState, OutputHandle};
 use frames::link::LinkFlow;
 use rows::answers::{KeeperError, Standing};
 use rows::keeper::Keeper;
+use rows::pending::PendingRow;
 use rows::row::Row;
 
 impl Keeper for FickleKeeper {
@@ -19,7 +20,7 @@ impl Keeper for FickleKeeper {
 
     ghost settles = { Settles };
 
-    ghost restores = { Moves.restores };
+    ghost restores = { Restores.restores };
 
     fn ask(&self, row: Row) -> Standing {
         if self.holds(row) {
@@ -36,7 +37,7 @@ impl Keeper for FickleKeeper {
             Standing::Pending => Err(KeeperError::RowOpen(row.link())),
             Standing::Neither => Err(KeeperError::NoPlace(row.link())),
             Standing::Place => {
-                self.held = Some(Held {
+                self.held = Some(PendingRow {
                     row,
                     state: DeliveryState::None,
                 });
@@ -57,15 +58,13 @@ impl Keeper for FickleKeeper {
         if !self.holds(row) {
             return false;
         }
-        self.held = Some(Held { row, state });
+        self.held = Some(PendingRow { row, state });
         true
     }
 
     fn close(&mut self, link: LinkNumber) {
         self.shut = !self.shut;
-        if let Some(held) = self.held
-            && held.row.link() == link
-        {
+        if self.held.is_some_and(|held| held.row.link() == link) {
             self.held = None;
         }
     }

@@ -9,7 +9,7 @@ ghost use Rattle.rows.specs.Keys.{key_of};
 ghost use Rattle.rows.specs.Meaning.{standing, Same, Pledge, Settle, Note, Close};
 ghost use Rattle.rows.specs.Reply.{echoed};
 ghost use Rattle.marking_keeper.specs.Records.{remarked, closed_on};
-ghost use Rattle.marking_keeper.specs.Marking.{held, stand, Rule, Pledges, Settles};
+ghost use Rattle.marking_keeper.specs.Marking.{held, stand, Rule, Pledges, Settles, SameLoan};
 ghost use Rattle.marking_keeper.specs.Restores;
 
 use super::MarkingKeeper;
@@ -34,28 +34,22 @@ impl<'a> Keeper for MarkingKeeper<'a> {
         ensures stands { (standing result).given (stand self.now (key_of row)) ≡ true }
         ensures place { Rule (key_of row) (held self.now) result }
     {
-        let Some(i) = self.first(&row) else {
-            return Standing::Neither;
-        };
-        let mark = self.records[i].mark;
-        match mark {
-            Some(_) => Standing::Pending,
-            None => Standing::Place,
+        match self.first(row).map(|i| self.records[i].mark) {
+            Some(Some(_)) => Standing::Pending,
+            Some(None) => Standing::Place,
+            None => Standing::Neither,
         }
     }
 
     fn pledge(&mut self, row: Row) -> Result<(), KeeperError>
         ensures keeps { Pledge stand Pledges self.old (key_of row) result self.new }
         ensures marks { held self.new ≡ (if is_ok result then remarked (key_of row) (Some NoState) (held self.old) else held self.old) }
-        ensures lent { self.new.records.ghost_name ≡ self.old.records.ghost_name }
+        ensures lent { SameLoan self.old self.new }
     {
-        let Some(i) = self.first(&row) else {
-            return Err(KeeperError::NoPlace(row.link()));
-        };
-        let mark = self.records[i].mark;
-        match mark {
-            Some(_) => Err(KeeperError::RowOpen(row.link())),
-            None => {
+        match self.first(row) {
+            None => Err(KeeperError::NoPlace(row.link())),
+            Some(i) if self.records[i].mark.is_some() => Err(KeeperError::RowOpen(row.link())),
+            Some(i) => {
                 self.records[i].mark = Some(DeliveryState::None);
                 Ok(())
             }
@@ -65,7 +59,7 @@ impl<'a> Keeper for MarkingKeeper<'a> {
     fn settle(&mut self, row: Row) -> bool
         ensures keeps { Settle stand Settles self.old (key_of row) result self.new }
         ensures marks { held self.new ≡ (if result then remarked (key_of row) None (held self.old) else held self.old) }
-        ensures lent { self.new.records.ghost_name ≡ self.old.records.ghost_name }
+        ensures lent { SameLoan self.old self.new }
     {
         self.remark(row, None)
     }
@@ -73,7 +67,7 @@ impl<'a> Keeper for MarkingKeeper<'a> {
     fn note(&mut self, row: Row, state: DeliveryState) -> bool
         ensures keeps { Note stand self.old (key_of row) state result self.new }
         ensures marks { held self.new ≡ (if result then remarked (key_of row) (Some state) (held self.old) else held self.old) }
-        ensures lent { self.new.records.ghost_name ≡ self.old.records.ghost_name }
+        ensures lent { SameLoan self.old self.new }
     {
         self.remark(row, Some(state))
     }
@@ -81,7 +75,7 @@ impl<'a> Keeper for MarkingKeeper<'a> {
     fn close(&mut self, link: LinkNumber)
         ensures keeps { Close stand self.old (number_of link) self.new }
         ensures marks { held self.new ≡ map (closed_on (number_of link)) (held self.old) }
-        ensures lent { self.new.records.ghost_name ≡ self.old.records.ghost_name }
+        ensures lent { SameLoan self.old self.new }
     {
         let number = u32::from(link.get());
         for record in self.records.iter_mut() {
@@ -95,7 +89,7 @@ impl<'a> Keeper for MarkingKeeper<'a> {
         ensures keeps { Same stand self.old self.new }
         ensures answer { result ≡ echoed flow handle }
         ensures marks { held self.new ≡ held self.old }
-        ensures lent { self.new.records.ghost_name ≡ self.old.records.ghost_name }
+        ensures lent { SameLoan self.old self.new }
     {
         echo(flow, handle)
     }

@@ -1,10 +1,9 @@
 //! A keeper is opened over records, looked into and given up again.
-ghost use Rattle.std.specs.Prelude.{◌≡◌, false, map, if◌then◌else◌};
+ghost use Rattle.std.specs.Prelude.{◌≡◌, false, map, position, if◌then◌else◌};
 ghost use Rattle.rows.specs.Keys.{Key, key_of};
 ghost use Rattle.rows.specs.Meaning.{is_pending, state_of};
-ghost use Rattle.marking_keeper.specs.Firsts.{Found};
 ghost use Rattle.marking_keeper.specs.Records.{naming, unmarked, remarked};
-ghost use Rattle.marking_keeper.specs.Marking.{held, stand};
+ghost use Rattle.marking_keeper.specs.Marking.{held, stand, SameLoan};
 
 use super::MarkingKeeper;
 use crate::record::Record;
@@ -44,40 +43,28 @@ impl<'a> MarkingKeeper<'a> {
     pub fn state(&self, row: Row) -> Option<DeliveryState>
         ensures { result ≡ state_of (stand self.now (key_of row)) }
     {
-        match self.first(&row) {
-            Some(i) => self.records[i].mark,
-            None => None,
-        }
+        self.first(row).and_then(|i| self.records[i].mark)
     }
 
     /// The place of the first record that names the row.
-    pub(super) fn first(&self, row: &Row) -> Option<usize>
-        ensures { Found (naming (key_of row.now)) (held self.now) result }
+    pub(super) fn first(&self, row: Row) -> Option<usize>
+        ensures { result ≡ position (naming (key_of row)) (held self.now) }
     {
-        for (i, record) in self.records.iter().enumerate() {
-            if record.names(row) {
-                return Some(i);
-            }
-        }
-        None
+        self.records.iter().position(|record| record.names(row))
     }
 
     /// Replaces the mark of a row that is pending, and tells whether it was.
     pub(super) fn remark(&mut self, row: Row, mark: Option<DeliveryState>) -> bool
         ensures was { result ≡ is_pending (stand self.old (key_of row)) }
         ensures marks { held self.new ≡ (if result then remarked (key_of row) mark (held self.old) else held self.old) }
-        ensures lent { self.new.records.ghost_name ≡ self.old.records.ghost_name }
+        ensures lent { SameLoan self.old self.new }
     {
-        let Some(i) = self.first(&row) else {
-            return false;
-        };
-        let old = self.records[i].mark;
-        match old {
-            None => false,
-            Some(_) => {
+        match self.first(row) {
+            Some(i) if self.records[i].mark.is_some() => {
                 self.records[i].mark = mark;
                 true
             }
+            _ => false,
         }
     }
 }

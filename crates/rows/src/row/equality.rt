@@ -1,4 +1,6 @@
-//! Two rows are one when their links and their tags are.
+//! Two rows are one when their links and the bytes of their tags are.
+//!
+//! This is no derive, since a derive's equation compares the lengths of tags too, and a row's key has none.
 ghost use Rattle.std.specs.Prelude.{◌≡◌};
 ghost use Rattle.rows.specs.Keys.{key_of, same_key};
 ghost use Rattle.std.specs.Cmp.Rules.{comparing};

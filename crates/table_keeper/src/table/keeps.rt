@@ -5,15 +5,15 @@ ghost use Rattle.rows.specs.Meaning.{standing, Same};
 ghost use Rattle.rows.specs.Reply.{echoed};
 ghost use Rattle.table_keeper.specs.Counts.{Counts, answered};
 ghost use Rattle.table_keeper.specs.Table.{stand, Pledges, Settles};
-ghost use Rattle.table_keeper.specs.Moves;
+ghost use Rattle.table_keeper.specs.Restores;
 
 use super::{PLACES, TableKeeper};
-use crate::slot::Slot;
 use definitions::link_number::LinkNumber;
 use definitions::numbers::{DeliveryState, OutputHandle};
 use frames::link::LinkFlow;
 use rows::answers::{KeeperError, Standing};
 use rows::keeper::Keeper;
+use rows::pending::PendingRow;
 use rows::reply::echo;
 use rows::row::Row;
 
@@ -24,7 +24,7 @@ impl Keeper for TableKeeper {
 
     ghost settles = { Settles };
 
-    ghost restores = { Moves.restores };
+    ghost restores = { Restores.restores };
 
     fn ask(&self, row: Row) -> Standing
         ensures stands { (standing result).given (stand self.now (key_of row)) ≡ true }
@@ -32,13 +32,8 @@ impl Keeper for TableKeeper {
     {
         match self.find(row) {
             Some(_) => Standing::Pending,
-            None => {
-                if self.slots.len() < PLACES {
-                    Standing::Place
-                } else {
-                    Standing::Neither
-                }
-            }
+            None if self.slots.len() < PLACES => Standing::Place,
+            None => Standing::Neither,
         }
     }
 
@@ -47,7 +42,7 @@ impl Keeper for TableKeeper {
             Standing::Pending => Err(KeeperError::RowOpen(row.link())),
             Standing::Neither => Err(KeeperError::NoPlace(row.link())),
             Standing::Place => {
-                self.slots.push_reserved(Slot {
+                self.slots.push_reserved(PendingRow {
                     row,
                     state: DeliveryState::None,
                 });
@@ -57,34 +52,23 @@ impl Keeper for TableKeeper {
     }
 
     fn settle(&mut self, row: Row) -> bool {
-        match self.find(row) {
-            Some(i) => {
-                self.take_out(i);
-                true
-            }
-            None => false,
-        }
+        let Some(i) = self.find(row) else {
+            return false;
+        };
+        self.slots.remove(i);
+        true
     }
 
     fn note(&mut self, row: Row, state: DeliveryState) -> bool {
-        match self.find(row) {
-            Some(i) => {
-                self.slots[i].state = state;
-                true
-            }
-            None => false,
-        }
+        let Some(i) = self.find(row) else {
+            return false;
+        };
+        self.slots[i].state = state;
+        true
     }
 
     fn close(&mut self, link: LinkNumber) {
-        let mut i = 0;
-        while i < self.slots.len() {
-            if self.slots[i].row.link() == link {
-                self.take_out(i);
-            } else {
-                i += 1;
-            }
-        }
+        self.slots.retain(|slot| slot.row.link() != link);
     }
 
     fn reply(&mut self, flow: LinkFlow, handle: OutputHandle) -> Option<LinkFlow>

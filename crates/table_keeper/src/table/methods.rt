@@ -1,12 +1,10 @@
 //! Opening a table, and looking at one.
-ghost use Rattle.std.specs.Prelude.{◌≡◌, ◌+◌, ◌<◌, IfOk, None, MatchOption};
-ghost use Rattle.std.specs.List.{remove};
+ghost use Rattle.std.specs.Prelude.{◌≡◌, IfOk, position};
 ghost use Rattle.rows.specs.Keys.{Key, key_of};
 ghost use Rattle.rows.specs.Meaning.{free, state_of};
-ghost use Rattle.rows.specs.Rows.{Found};
 ghost use Rattle.table_keeper.specs.Counts.{Counts};
-ghost use Rattle.table_keeper.specs.Slots.{key_in};
-ghost use Rattle.table_keeper.specs.Table.{held, size, slots_of, stand};
+ghost use Rattle.table_keeper.specs.Slots.{is_of};
+ghost use Rattle.table_keeper.specs.Table.{slots_of, stand};
 
 use super::{PLACES, TableKeeper};
 use definitions::numbers::DeliveryState;
@@ -26,10 +24,7 @@ impl TableKeeper {
     pub fn state(&self, row: Row) -> Option<DeliveryState>
         ensures { result ≡ state_of (stand self.now (key_of row)) }
     {
-        match self.find(row) {
-            Some(i) => Some(self.slots[i].state),
-            None => None,
-        }
+        self.find(row).map(|i| self.slots[i].state)
     }
 
     /// How many rows are pending.
@@ -41,22 +36,8 @@ impl TableKeeper {
 
     // Where the row is, if it is pending.
     pub(super) fn find(&self, row: Row) -> Option<usize>
-        ensures { MatchOption result (held self.now (key_of row) ≡ None) (Found key_in (key_of row) (slots_of self.now)) }
+        ensures { result ≡ position (is_of (key_of row)) (slots_of self.now) }
     {
-        for (i, slot) in self.slots.iter().enumerate() {
-            if row == slot.row {
-                return Some(i);
-            }
-        }
-        None
-    }
-
-    // Takes the slot at `i` out.
-    pub(super) fn take_out(&mut self, i: usize)
-        requires { i < size self.old }
-        ensures slots { slots_of self.new ≡ remove (slots_of self.old) i }
-        ensures len { size self.new + 1 ≡ size self.old }
-    {
-        self.slots.remove(i);
+        self.slots.iter().position(|slot| slot.row == row)
     }
 }

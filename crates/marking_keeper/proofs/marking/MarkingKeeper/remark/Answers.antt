@@ -1,27 +1,19 @@
-use Rattle.std.proofs.Common.{sym, refl, ap, ◌∙◌}
+use Rattle.std.proofs.Common.{sym, arith}
 use Rattle.rows.specs.Keys.{key_of}
-use Rattle.rows.specs.Meaning.{is_pending}
-use Rattle.marking_keeper.specs.Marking.{by_mark}
-use Rattle.marking_keeper.proofs.Moves.{stand_found, stand_nowhere, marked_found}
+use Rattle.marking_keeper.specs.Records.{naming, marked}
+use Rattle.marking_keeper.specs.Marking.{held}
+use Rattle.marking_keeper.proofs.Finds.{changed_first}
+use Rattle.marking_keeper.proofs.Moves.{stand_found, stand_nowhere}
 use Rattle.marking_keeper.proofs.marking.MarkingKeeper.remark.Goals as goal
 
-pub returns-in_default : goal.returns-in_default
-returns-in_default c = record {
-  was = sym (ap is_pending (stand_nowhere c.args.self.now (key_of c.args.row) c.in_default.ensures));
-  marks = refl;
-  lent = refl;
-}
+pub returns-in-Some-clause-was : goal.returns-in-Some-clause-was
+returns-in-Some-clause-was c = grind (arith, stand_found c.args.self.now (key_of c.args.row))
 
-pub returns-in-None : goal.returns-in-None
-returns-in-None c = record {
-  was = sym (ap is_pending (stand_found c.args.self.now (key_of c.args.row) c.in-Some.i _ c.in-Some.ensures ∙ ap by_mark c.in-None.is));
-  marks = refl;
-  lent = refl;
-}
+pub returns-in-Some-clause-marks : goal.returns-in-Some-clause-marks
+returns-in-Some-clause-marks c = sym (changed_first (naming (key_of c.args.row)) (marked c.args.mark) (held c.args.self.now) c.in-Some.i _ (sym c.in-Some.ensures))
 
-pub returns-in-Some-old : goal.returns-in-Some-old
-returns-in-Some-old c = record {
-  was = sym (ap is_pending (stand_found c.args.self.now (key_of c.args.row) c.in-Some.i _ c.in-Some.ensures ∙ ap by_mark c.in-Some-old.is));
-  marks = marked_found (key_of c.args.row) c.args.mark c.args.self.now.records.now c.in-Some.i _ c.in-Some.ensures;
-  lent = refl;
-}
+pub returns-in_default-clause-was : goal.returns-in_default-clause-was
+returns-in_default-clause-was c = grind (arith, stand_found c.args.self.now (key_of c.args.row))
+
+pub returns-in_default-2-clause-was : goal.returns-in_default-2-clause-was
+returns-in_default-2-clause-was c = grind (arith, stand_nowhere c.args.self.now (key_of c.args.row))

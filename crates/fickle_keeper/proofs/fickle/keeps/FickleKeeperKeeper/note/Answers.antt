@@ -1,5 +1,5 @@
 use Rattle.std.proofs.Common.{sym, refl}
-use Rattle.fickle_keeper.specs.Moves.{noted}
+use Rattle.fickle_keeper.proofs.Moves.{noted}
 use Rattle.fickle_keeper.proofs.fickle.keeps.FickleKeeperKeeper.note.Goals as goal
 
 pub returns : goal.returns

@@ -1,6 +1,6 @@
 use Rattle.std.proofs.Common.{refl}
 use Rattle.definitions.specs.declared.numbers.DeliveryState.TheVariants.{None}
-use Rattle.fickle_keeper.specs.Moves.{pledged}
+use Rattle.fickle_keeper.proofs.Moves.{pledged}
 use Rattle.fickle_keeper.proofs.fickle.keeps.FickleKeeperKeeper.pledge.Goals as goal
 
 pub returns-in-Place : goal.returns-in-Place

@@ -1,6 +1,6 @@
 use Rattle.std.proofs.Common.{sym, refl}
 use Rattle.rows.specs.Keys.{key_of}
-use Rattle.fickle_keeper.specs.Moves.{let_go}
+use Rattle.fickle_keeper.proofs.Moves.{let_go}
 use Rattle.fickle_keeper.proofs.fickle.keeps.FickleKeeperKeeper.settle.Goals as goal
 
 pub returns : goal.returns

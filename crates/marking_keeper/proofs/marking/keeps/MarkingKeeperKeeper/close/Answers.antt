@@ -2,7 +2,7 @@ use Rattle.std.proofs.Common.{◌≡◌, map, refl, ap, ◌∙◌, arith}
 use Rattle.definitions.specs.LinkNumbers.{number_of}
 use Rattle.marking_keeper.specs.Records.{closed_on}
 use Rattle.marking_keeper.proofs.Loops.{over_all}
-use Rattle.marking_keeper.proofs.Moves.{closed, closed-more, closed_skip}
+use Rattle.marking_keeper.proofs.Moves.{closed, closed_yes, closed_no}
 use Rattle.marking_keeper.proofs.marking.keeps.MarkingKeeperKeeper.close.Goals as goal
 use Rattle.marking_keeper.proofs.marking.keeps.MarkingKeeperKeeper.close.Goals.{then-record-number, else-record-number}
 
@@ -13,8 +13,8 @@ loop-record-preserved c =
     let ys = c.loop-record.record-items in
     let i = c.loop-record.record-index in
     elim c.if-record-number.branch [
-      | then-record-number w ↦ w.record-items-is ∙ closed-more n xs ys i _ (omega arith) (omega arith) w.if-record-number.true c.loop-record.invariant
-      | else-record-number w ↦ w.record-items-is ∙ closed_skip n xs ys i _ (omega arith) (omega arith) w.if-record-number.false c.loop-record.invariant
+      | then-record-number w ↦ w.record-items-is ∙ closed_yes n xs ys i _ (omega arith) (omega arith) w.if-record-number.true c.loop-record.invariant
+      | else-record-number w ↦ w.record-items-is ∙ closed_no n xs ys i _ (omega arith) (omega arith) w.if-record-number.false c.loop-record.invariant
     ]
 
 pub returns : goal.returns

@@ -1,0 +1,87 @@
+-- What a change of its slots does to a table as a keeper.
+use Rattle.std.proofs.Common.{◌≡◌, ◌≢◌, ℕ, ◌+◌, ◌<◌, ◌≤◌, Bool, true, false, cond, eqb, List, [], ◌∷◌, ◌++◌, get_or, set, is_some, Some, None, Option, sym, refl, ap, ◌∙◌, arith}
+use Rattle.std.specs.List.{position, remove}
+use Rattle.definitions.specs.declared.numbers.DeliveryState.{DeliveryState}
+use Rattle.rows.specs.Keys.{Key, same_key}
+use Rattle.rows.specs.Meaning.{free, state_of, is_pending, is_free, is_full, Put}
+use Rattle.rows.specs.declared.pending.PendingRow.{PendingRow}
+use Rattle.rows.proofs.Keys.{same_key_tells}
+use Rattle.table_keeper.specs.declared.table.TableKeeper.{TableKeeper}
+use Rattle.table_keeper.specs.Slots.{key_in, is_of, state_in, off_link}
+use Rattle.table_keeper.specs.Table.{slots_of, held, size, stood, stand, Pledges, Settles}
+use Rattle.table_keeper.proofs.Slots.{none, found, pushed, removed, replaced, filtered}
+
+-- The state of a row is what is held of it.
+state-stood : (o : Option DeliveryState) (room : Bool) → state_of (stood o room) ≡ o
+state-stood (Some v) room = refl
+state-stood None true = refl
+state-stood None false = refl
+
+state-held : (s : TableKeeper) (k : Key) → state_of (stand s k) ≡ held s k
+state-held s k = state-stood (held s k) _
+
+pub state_nowhere : (s : TableKeeper) (k : Key) → position (is_of k) (slots_of s) ≡ None → state_of (stand s k) ≡ None
+state_nowhere s k e = state-held s k ∙ none k (slots_of s) e
+
+pub state_found : (s : TableKeeper) (k : Key) (i : ℕ) (d : PendingRow) → position (is_of k) (slots_of s) ≡ Some i → state_of (stand s k) ≡ Some (get_or (slots_of s) i d).state
+state_found s k i d e = state-held s k ∙ (found k (slots_of s) i d e).2
+
+-- Exactly the rows that are held are pending.
+pub pending-held : (s : TableKeeper) (k : Key) → is_pending (stand s k) ≡ is_some (held s k)
+pending-held s k = grind arith
+
+pub found_pending : (s : TableKeeper) (k : Key) (i : ℕ) (d : PendingRow) → position (is_of k) (slots_of s) ≡ Some i → is_pending (stand s k) ≡ true
+found_pending s k i d e = pending-held s k ∙ ap is_some (found k (slots_of s) i d e).2
+
+-- t holds what s does, but of k, of which it holds v.
+abbrev Updated : TableKeeper → Key → Option DeliveryState → TableKeeper → Type 0
+Updated s k v t = (j : Key) → held t j ≡ cond (same_key k j) v (held s j)
+
+here : (s t : TableKeeper) (k : Key) (v : Option DeliveryState) → Updated s k v t → held t k ≡ v
+here s t k v u = grind (arith, u k, same_key_tells)
+
+others : (s t : TableKeeper) (k : Key) (v : Option DeliveryState) → Updated s k v t → (j : Key) → (j ≢ k) → held t j ≡ held s j
+others s t k v u j n = grind (arith, u j, same_key_tells)
+
+put : (s t : TableKeeper) (k : Key) (v : Option DeliveryState) → Updated s k v t → Put stand s k v t
+put s t k v u = record {
+  here = state-held t k ∙ here s t k v u;
+  others = λ j n. state-held t j ∙ others s t k v u j n ∙ sym (state-held s j);
+}
+
+-- A row without a slot is not pending. It has a place while there are fewer than 256 slots, and has none when there are as many.
+pub not_pending : (s : TableKeeper) (k : Key) → position (is_of k) (slots_of s) ≡ None → is_pending (stand s k) ≡ false
+not_pending s k e = pending-held s k ∙ ap is_some (none k (slots_of s) e)
+
+pub free_from : (s : TableKeeper) (k : Key) → position (is_of k) (slots_of s) ≡ None → size s < 256 → is_free (stand s k) ≡ true
+free_from s k e h = grind (arith, none k (slots_of s) e)
+
+pub full_from : (s : TableKeeper) (k : Key) → position (is_of k) (slots_of s) ≡ None → 256 ≤ size s → is_full (stand s k) ≡ true
+full_from s k e h = grind (arith, none k (slots_of s) e)
+
+-- A row that has a place is not held, and there is room.
+pub free_parts : (s : TableKeeper) (k : Key) → is_free (stand s k) ≡ true → (stand s k ≡ free) × (held s k ≡ None) × (size s < 256)
+free_parts s k e = (grind arith, grind arith, grind arith)
+
+-- one slot more, of a row that has a place
+pub pledged : (s t : TableKeeper) (x : PendingRow) → is_free (stand s (key_in x)) ≡ true → slots_of t ≡ slots_of s ++ x ∷ [] → size t ≡ size s + 1 → (stand s (key_in x) ≡ free) × Put stand s (key_in x) (Some x.state) t × Pledges s (key_in x) t
+pledged s t x e q n =
+    let f = free_parts s (key_in x) e in
+    let u : Updated s (key_in x) (Some x.state) t = λ j. ap (state_in j) q ∙ pushed j (slots_of s) x f.1 in
+    (f.0, put s t (key_in x) (Some x.state) u, record { before = f.1; others = others s t (key_in x) (Some x.state) u; more = n })
+
+-- the row's slot less
+pub settled : (s t : TableKeeper) (k : Key) (i : ℕ) (d : PendingRow) → position (is_of k) (slots_of s) ≡ Some i → slots_of t ≡ remove (slots_of s) i → size t + 1 ≡ size s → (is_pending (stand s k) ≡ true) × Put stand s k None t × Settles s k t
+settled s t k i d e q n =
+    let u : Updated s k None t = λ j. ap (state_in j) q ∙ removed j k (slots_of s) i d s.apart e in
+    (found_pending s k i d e, put s t k None u, record { before = here s t k None u; others = λ j a. sym (others s t k None u j a); more = sym n })
+
+-- another state in the row's slot
+pub noted : (s t : TableKeeper) (k : Key) (i : ℕ) (y : PendingRow) → position (is_of k) (slots_of s) ≡ Some i → key_in y ≡ k → slots_of t ≡ set (slots_of s) i y → (is_pending (stand s k) ≡ true) × Put stand s k (Some y.state) t
+noted s t k i y e f q =
+    let u : Updated s k (Some y.state) t = λ j. ap (state_in j) q ∙ replaced j k (slots_of s) i y e f in
+    (found_pending s k i y e, put s t k (Some y.state) u)
+
+-- the slots of the other links
+pub closed : (s : TableKeeper) (l : ℕ) (ys : List PendingRow) (room : Bool) → ys ≡ off_link l (slots_of s) → (j : Key) → state_of (stood (state_in j ys) room) ≡ cond (eqb j.link l) None (state_of (stand s j))
+closed s l ys room q j = state-stood (state_in j ys) room ∙ ap (state_in j) q ∙ filtered j l (slots_of s) ∙ ap (cond (eqb j.link l) None) (sym (state-held s j))
