@@ -1,5 +1,6 @@
 -- What row memory holds.
-use Rattle.std.specs.Prelude.{◌≡◌, ℕ, ◌+◌, Bool, false, cond, not, ◌&&◌, List, [], ◌∷◌, ◌++◌, length, take, drop, Some, None, vec_items, Option, nat_le, nat_lt}
+use Rattle.std.specs.Prelude.{◌≡◌, ℕ, ◌+◌, Bool, false, cond, not, ◌&&◌, List, [], ◌∷◌, ◌++◌, length, take, drop, Some, None, vec_items, Option, option_and_then, nat_le, nat_lt, find, reverse}
+use Rattle.std.specs.Option.{option_map}
 use Rattle.std.specs.Str.{bytes_eq}
 use Rattle.frames.specs.declared.session.Payload.{Payload}
 use Rattle.rows.specs.declared.row.Row.{Row}
@@ -33,24 +34,13 @@ room_for m n = cond (fits m n) (Some (record { place = length (text_in m); len =
 abbrev pub part_of : List ℕ → Payload → Option (List ℕ)
 part_of text p = cond (nat_le (p.place + p.len) (length text)) (Some (take p.len (drop p.place text))) None
 
--- the newer of two
-abbrev pub later : {X : Type 0} → Option X → Option X → Option X
-later (Some x) old = Some x
-later None old = old
-
 -- where the newest value of the row lies
 abbrev pub place_of : Key → List RowValue → Option Payload
-place_of k [] = None
-place_of k (v ∷ vs) = later (place_of k vs) (cond (same_key (key_of v.row) k) (Some v.payload) None)
-
--- the text at a place, if there is one
-abbrev pub text_at : List ℕ → Option Payload → Option (List ℕ)
-text_at text (Some p) = part_of text p
-text_at text None = None
+place_of k vs = option_map (λ v. v.payload) (find (λ v. same_key (key_of v.row) k) (reverse vs))
 
 -- the row's value
 abbrev pub value_of : RowMemory → Key → Option (List ℕ)
-value_of m k = text_at (text_in m) (place_of k (values_in m))
+value_of m k = option_and_then (part_of (text_in m)) (place_of k (values_in m))
 
 -- whether there is a value, and it is another text
 abbrev pub is_other : Option (List ℕ) → List ℕ → Bool

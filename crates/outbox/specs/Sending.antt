@@ -1,5 +1,5 @@
 -- When an edit is sent, what it sends, and what it changes.
-use Rattle.std.specs.Prelude.{ℕ, false, cond, List, length, is_some, Some, None, Ok, Err, Option, Result, ◌==◌}
+use Rattle.std.specs.Prelude.{ℕ, false, cond, List, length, is_some, Some, None, Option, ◌==◌, codes}
 use Rattle.definitions.specs.LinkNumbers.{number_of}
 use Rattle.definitions.specs.declared.numbers.DeliveryState.TheVariants.{None as NoState}
 use Rattle.frames.specs.declared.session.Payload.{Payload}
@@ -15,6 +15,14 @@ use Rattle.outbox.specs.declared.edit.EditError.TheVariants.{ValueDiffers, RowOp
 use Rattle.outbox.specs.declared.memory.RowMemory.{RowMemory}
 use Rattle.outbox.specs.Memory.{is_other, room_for, value_of}
 
+-- what a user is told of a refusal
+abbrev pub text_of : EditError → List ℕ
+text_of ValueDiffers = codes "the row has another value"
+text_of RowOpen = codes "the row is pending"
+text_of NoPlace = codes "the keeper has no place for the row"
+text_of WireFull = codes "the wire queue is full"
+text_of MemoryFull = codes "row memory is full"
+
 -- a keeper's refusal, as an edit's
 abbrev pub kept_off : KeeperError → EditError
 kept_off (HeldAlready l) = RowOpen
@@ -28,11 +36,6 @@ refusal_of stand m room k was text =
     (cond (is_full stand) (Some NoPlace)
     (cond (room == 0) (Some WireFull)
     (cond (is_some (room_for m (length text))) None (Some MemoryFull)))))
-
--- an answer that is yes unless there is a refusal
-abbrev pub ok_unless : Option EditError → Result (Unit {0}) EditError
-ok_unless (Some e) = Err e
-ok_unless None = Ok tt
 
 -- The transfer of a row's value: on channel 0, on the handle that equals the link's number, unsettled and whole.
 abbrev pub transfer_of : Row → Payload → ℕ → SessionFrame

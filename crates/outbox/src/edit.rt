@@ -1,9 +1,13 @@
 //! An edit of a row, and why one is refused.
-ghost use Rattle.std.specs.Prelude.{◌≡◌};
-ghost use Rattle.outbox.specs.Sending.{kept_off};
+ghost use Rattle.std.specs.Prelude.{◌≡◌, Some};
+ghost use Rattle.outbox.specs.Sending.{kept_off, text_of};
+ghost use Rattle.outbox.specs.declared.edit.EditError.TheVariants.{WireFull};
 
+use queue::Full;
 use rows::answers::KeeperError;
 use rows::row::Row;
+use std::error::Error;
+use std::fmt;
 
 /// A row's value changes from one text to another.
 #[derive(Clone, Copy)]
@@ -28,13 +32,37 @@ pub enum EditError {
     MemoryFull,
 }
 
+impl fmt::Display for EditError {
+    ghost output = { λ e. Some (text_of e) };
+
+    fn fmt<W: fmt::Write>(&self, f: &mut fmt::Formatter<W>) -> fmt::Result {
+        f.write_str(match self {
+            EditError::ValueDiffers => "the row has another value",
+            EditError::RowOpen => "the row is pending",
+            EditError::NoPlace => "the keeper has no place for the row",
+            EditError::WireFull => "the wire queue is full",
+            EditError::MemoryFull => "row memory is full",
+        })
+    }
+}
+
+impl Error for EditError {}
+
 impl From<KeeperError> for EditError {
     ghost from_gives = { λ e r. r ≡ kept_off e };
 
-    fn from(e: KeeperError) -> EditError {
+    fn from(e: KeeperError) -> Self {
         match e {
-            KeeperError::RowOpen(_) => EditError::RowOpen,
-            KeeperError::NoPlace(_) => EditError::NoPlace,
+            KeeperError::RowOpen(_) => Self::RowOpen,
+            KeeperError::NoPlace(_) => Self::NoPlace,
         }
+    }
+}
+
+impl From<Full> for EditError {
+    ghost from_gives = { λ _ r. r ≡ WireFull };
+
+    fn from(_: Full) -> Self {
+        Self::WireFull
     }
 }

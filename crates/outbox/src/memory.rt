@@ -19,6 +19,7 @@ pub struct RowValue {
 pub struct RowMemory {
     text: Vec<u8>,
     values: Vec<RowValue>,
+    // The limits are exact, where a vector may have more capacity than was asked for.
     size: u32,
     most: u32,
     ghost text_fits: { vec_len text ≤ size },

@@ -1,8 +1,8 @@
 //! The outbox, and the sending of an edit.
 ghost use Rattle.std.specs.Prelude.{◌≡◌};
-ghost use Rattle.rows.specs.Keys.{key_of};
-ghost use Rattle.outbox.specs.Sending.{refusal_of, transfer_of, ok_unless};
-ghost use Rattle.outbox.specs.Outboxes.{Answered};
+ghost use Rattle.std.specs.Result.{result_err};
+ghost use Rattle.outbox.specs.Sending.{transfer_of};
+ghost use Rattle.outbox.specs.Outboxes.{Answered, refusal};
 
 use crate::edit::{Edit, EditError};
 use crate::memory::RowMemory;
@@ -37,25 +37,25 @@ impl<K: Keeper> Outbox<K> {
         ensures { Answered K.Keeper.stands self.old edit.entry wire.old result self.new wire.new }
     {
         self.check(edit, wire.free())?;
+        // Nothing that the check lets through is refused below.
         self.keeper.pledge(edit.row)?;
-        let Some(payload) = self.memory.write(edit.row, edit.becomes) else {
-            return Err(EditError::MemoryFull);
-        };
-        let frame = transfer(edit.row, payload, self.next_delivery_id);
-        if wire.put(frame).is_err() {
-            return Err(EditError::WireFull);
-        }
+        let payload = self
+            .memory
+            .write(edit.row, edit.becomes)
+            .ok_or(EditError::MemoryFull)?;
+        wire.put(transfer(edit.row, payload, self.next_delivery_id))?;
         self.next_delivery_id = self.next_delivery_id.wrapping_add(1);
         Ok(())
     }
 
     /// Whether an edit would be sent, where the wire queue has `room` free slots.
     fn check(&self, edit: Edit<'_>, room: usize) -> Result<(), EditError>
-        ensures { result ≡ ok_unless (refusal_of (K.Keeper.stands self.now.keeper (key_of edit.entry.row)) self.now.memory room (key_of edit.entry.row) edit.entry.was.now edit.entry.becomes.now) }
+        ensures { result_err result ≡ refusal K.Keeper.stands self.now edit.entry room }
     {
         if self.memory.differs(edit.row, edit.was) {
             return Err(EditError::ValueDiffers);
         }
+        // A match is plainest: one of the three answers is no refusal.
         match self.keeper.ask(edit.row) {
             Standing::Pending => return Err(EditError::RowOpen),
             Standing::Neither => return Err(EditError::NoPlace),
@@ -64,10 +64,10 @@ impl<K: Keeper> Outbox<K> {
         if room == 0 {
             return Err(EditError::WireFull);
         }
-        match self.memory.room_for(edit.becomes.len()) {
-            Some(_) => Ok(()),
-            None => Err(EditError::MemoryFull),
-        }
+        self.memory
+            .room_for(edit.becomes.len())
+            .ok_or(EditError::MemoryFull)?;
+        Ok(())
     }
 }
 

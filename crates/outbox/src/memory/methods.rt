@@ -29,11 +29,8 @@ impl RowMemory {
         ensures { result ≡ room_for self.now len }
     {
         let place = self.text.len();
-        let left = self.size as usize - place;
-        if len > left || self.values.len() >= self.most as usize {
-            return None;
-        }
-        Some(Payload {
+        let fits = len <= self.size as usize - place && self.values.len() < self.most as usize;
+        fits.then(|| Payload {
             place: place as u32,
             len: len as u32,
         })
@@ -45,10 +42,7 @@ impl RowMemory {
     {
         let start = payload.place as usize;
         let end = start + payload.len as usize;
-        if end > self.text.len() {
-            return None;
-        }
-        Some(&self.text.as_slice()[start..end])
+        self.text.get(start..end)
     }
 
     /// Every value that was written, the oldest first.
@@ -62,33 +56,25 @@ impl RowMemory {
     pub(crate) fn value(&self, row: Row) -> Option<&[u8]>
         ensures { option_map (λ x. x.now) result ≡ value_of self.now (key_of row) }
     {
-        match self.place(row) {
-            Some(payload) => self.read(payload),
-            None => None,
-        }
+        self.place(row).and_then(|payload| self.read(payload))
     }
 
     /// Whether the row has a value, and it is not `text`.
     pub(crate) fn differs(&self, row: Row, text: &[u8]) -> bool
         ensures { result ≡ is_other (value_of self.now (key_of row)) text.now }
     {
-        match self.value(row) {
-            Some(value) => value != text,
-            None => false,
-        }
+        self.value(row).is_some_and(|value| value != text)
     }
 
     /// Where the row's value lies.
     fn place(&self, row: Row) -> Option<Payload>
         ensures { result ≡ place_of (key_of row) (values_in self.now) }
     {
-        let mut last = None;
-        for value in self.values.as_slice() {
-            if value.row == row {
-                last = Some(value.payload);
-            }
-        }
-        last
+        self.values
+            .iter()
+            .rev()
+            .find(|value| value.row == row)
+            .map(|value| value.payload)
     }
 
     /// Writes a value of the row, or nothing where it has no room.
@@ -96,18 +82,8 @@ impl RowMemory {
         ensures { Written self.old row text.now result self.new }
     {
         let payload = self.room_for(text.len())?;
-        append(&mut self.text, text);
+        self.text.extend_from_slice(text).unwrap();
         self.values.push_reserved(RowValue { row, payload });
         Some(payload)
     }
-}
-
-/// Puts `more` behind the text, which has the capacity for it.
-fn append(text: &mut Vec<u8>, more: &[u8])
-    requires { vec_len text.old + length more.now ≤ vec_capacity text.old }
-    ensures items { text.new.items ≡ text.old.items ++ more.now }
-    ensures len { vec_len text.new ≡ vec_len text.old + length more.now }
-    ensures capacity { vec_capacity text.old ≤ vec_capacity text.new }
-{
-    let _ = text.extend_from_slice(more);
 }
