@@ -2,7 +2,6 @@
 use edit_lines::unreadable::{Field, Unreadable};
 use frames::performatives::Transfer;
 use frames::session::Payload;
-use outbox::edit::EditError;
 use std::fmt;
 
 /// Bytes in hexadecimal.
@@ -43,25 +42,31 @@ pub(crate) struct TransferLine<'a> {
 
 impl fmt::Display for TransferLine<'_> {
     fn fmt<W: fmt::Write>(&self, f: &mut fmt::Formatter<W>) -> fmt::Result {
-        let channel = self.channel;
-        let handle = self.transfer.handle.0;
-        write!(f, "wire transfer channel={channel} handle={handle}")?;
-        if let Some(id) = self.transfer.delivery_id {
+        let Transfer {
+            handle,
+            delivery_id,
+            delivery_tag,
+            settled,
+            more,
+            ..
+        } = self.transfer;
+        write!(
+            f,
+            "wire transfer channel={} handle={}",
+            self.channel, handle.0
+        )?;
+        if let Some(id) = delivery_id {
             write!(f, " delivery-id={id}")?;
         }
-        if let Some(tag) = self.transfer.delivery_tag {
-            let tag = Hex(tag.as_slice());
-            write!(f, " tag={tag}")?;
+        if let Some(tag) = delivery_tag {
+            write!(f, " tag={}", Hex(tag.as_slice()))?;
         }
-        if let Some(settled) = self.transfer.settled {
-            let settled = yes_no(settled);
-            write!(f, " settled={settled}")?;
+        if let Some(settled) = settled {
+            write!(f, " settled={}", yes_no(settled))?;
         }
-        let more = yes_no(self.transfer.more);
-        let place = self.payload.place;
-        let len = self.payload.len;
+        let Payload { place, len } = self.payload;
         let text = Quoted(self.text);
-        write!(f, " more={more} payload={place}+{len} {text}")
+        write!(f, " more={} payload={place}+{len} {text}", yes_no(more))
     }
 }
 
@@ -98,16 +103,5 @@ impl fmt::Display for UnreadableText {
                 write!(f, "{key} cannot hold that value")
             }
         }
-    }
-}
-
-/// Why an edit is refused.
-pub(crate) fn reason(error: EditError) -> &'static str {
-    match error {
-        EditError::ValueDiffers => "the row has another value",
-        EditError::RowOpen => "the row is pending",
-        EditError::NoPlace => "the keeper has no place for the row",
-        EditError::WireFull => "the wire queue is full",
-        EditError::MemoryFull => "row memory is full",
     }
 }
