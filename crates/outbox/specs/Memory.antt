@@ -1,5 +1,6 @@
 -- What row memory holds.
-use Rattle.std.specs.Prelude.{◌≡◌, ℕ, ◌+◌, Bool, false, cond, not, ◌&&◌, List, [], ◌∷◌, ◌++◌, length, take, drop, Some, None, vec_items, Option, option_and_then, nat_le, nat_lt, find, reverse}
+use Rattle.std.specs.Prelude.{◌≡◌, ℕ, ◌+◌, Bool, false, not, ◌&&◌, List, [], ◌∷◌, ◌++◌, length, take, drop, Some, None, vec_items, Option, option_and_then, nat_le, nat_lt, find, reverse}
+use Rattle.std.specs.Bool.{then_some}
 use Rattle.std.specs.Option.{option_map}
 use Rattle.std.specs.Str.{bytes_eq}
 use Rattle.frames.specs.declared.session.Payload.{Payload}
@@ -28,11 +29,11 @@ fits m n = nat_le (length (text_in m) + n) m.size && nat_lt (length (values_in m
 
 -- where a value of n bytes would be written
 abbrev pub room_for : RowMemory → ℕ → Option Payload
-room_for m n = cond (fits m n) (Some (record { place = length (text_in m); len = n })) None
+room_for m n = then_some (fits m n) (record { place = length (text_in m); len = n })
 
 -- the bytes that a payload names in a text, if they are all there
 abbrev pub part_of : List ℕ → Payload → Option (List ℕ)
-part_of text p = cond (nat_le (p.place + p.len) (length text)) (Some (take p.len (drop p.place text))) None
+part_of text p = then_some (nat_le (p.place + p.len) (length text)) (take p.len (drop p.place text))
 
 -- where the newest value of the row lies
 abbrev pub place_of : Key → List RowValue → Option Payload

@@ -1,10 +1,21 @@
-//! What a line of the input is, before it is read as an edit.
+//! What a line of the input says: nothing, or an edit.
 ghost use Rattle.std.specs.Prelude.{◌≡◌};
 ghost use Rattle.salfjung.specs.Input.{says_nothing};
+
+use edit_lines::read::{Change, read_change, read_row};
+use edit_lines::unreadable::Unreadable;
+use outbox::edit::Edit;
 
 /// Whether a line says nothing: it is blank, or a comment, which begins with `#`.
 pub(crate) fn says_nothing(line: &[u8]) -> bool
     ensures { result ≡ says_nothing line.now }
 {
     matches!(line, [] | [b'#', ..])
+}
+
+/// The edit that a line says, or why it says none.
+pub(crate) fn read_edit(line: &[u8]) -> Result<Edit<'_>, Unreadable> {
+    let row = read_row(line)?;
+    let Change { was, becomes } = read_change(line)?;
+    Ok(Edit { row, was, becomes })
 }

@@ -1,9 +1,7 @@
 //! The run over the lines of the input.
-use crate::input::says_nothing;
+use crate::input::{read_edit, says_nothing};
 use crate::print::{Hex, TransferLine, UnreadableText};
 use crate::tally::Tally;
-use edit_lines::read::{Change, read_change, read_row};
-use edit_lines::unreadable::Unreadable;
 use frames::performatives::End;
 use frames::session::{SessionFrame, SessionFrameBody};
 use outbox::edit::Edit;
@@ -46,13 +44,6 @@ pub(crate) fn run(rt: &HostRuntime) -> anyhow::Result<()> {
     replay.print_rows()?;
     rt.println(replay.tally)?;
     Ok(())
-}
-
-/// The edit that a line says.
-fn read_edit(line: &[u8]) -> Result<Edit<'_>, Unreadable> {
-    let row = read_row(line)?;
-    let Change { was, becomes } = read_change(line)?;
-    Ok(Edit { row, was, becomes })
 }
 
 /// What the lines of the input are sent by, and where they go.

@@ -1,5 +1,5 @@
 //! Values are written behind one another and read where they were written.
-ghost use Rattle.std.specs.Prelude.{◌≡◌, ◌+◌, ◌≤◌, ◌++◌, length, IfOk, vec_len, vec_capacity};
+ghost use Rattle.std.specs.Prelude.{◌≡◌, IfOk};
 ghost use Rattle.std.specs.Option.{option_map};
 ghost use Rattle.rows.specs.Keys.{key_of};
 ghost use Rattle.outbox.specs.Memory.{text_in, values_in, room_for, part_of, place_of, value_of, is_other, Empty, Written};
