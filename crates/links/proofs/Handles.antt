@@ -1,146 +1,106 @@
 -- The facts that a handle table keeps, when a handle is given or freed.
-use Rattle.std.proofs.Common.{◌≡◌, ℕ, ◌+◌, ◌<◌, ◌≤◌, true, false, cond, not, ◌&&◌, eqb, ltb, ◌≢◌, List, [], ◌∷◌, ◌++◌, length, set, Some, Option, sym, refl, ap, ◌∙◌, subst, ⊎_elim, arith}
-use Rattle.std.proofs.lemmas.List.{get_or_past, get_or-set_same, get_or-set_other, map-set}
-use Rattle.std.proofs.lemmas.Bool.{and_parts, and_from, both_ways, cases_Bool, cases_lt, eqb-true, eqb-false, eq-eqb, ne_eqb, lt-ltb, ltb-true, not-true}
-use Rattle.std.specs.Option.{option_to_list}
-use Rattle.std.specs.Str.{bytes_eq}
+use Rattle.std.proofs.Common.{◌≡◌, ◌≢◌, ℕ, ◌+◌, ◌<◌, true, false, cond, not, ◌&&◌, ltb, List, [], ◌∷◌, ◌++◌, length, set, get_or, Some, None, Option, sym, refl, ap, ◌∙◌, subst, ⊎_elim, arith, rules}
+use Rattle.std.specs.Cmp.{IsEquivalence}
+use Rattle.std.specs.Cmp.Rules.{comparing}
+use Rattle.std.specs.List.{All, AllPass, AllPairs, list_any}
+use Rattle.std.proofs.lemmas.Bool.{and_parts, and_from, both_ways, cases_eq, false_from_ne_true, lt-ltb, ltb-true, not-true}
+use Rattle.std.proofs.lemmas.List.{length-set, get_or_append_left, length_push, get_or_push, get_or-set_same, get_or-set_other, get_or_past}
+use Rattle.std.proofs.lemmas.List.Elements.{All-push}
+use Rattle.std.proofs.lemmas.List.Folds.{list_any_at}
+use Rattle.std.proofs.lemmas.List.Quantifiers.{all_pairs_push}
+use Rattle.std.proofs.lemmas.List.Sums.{sum_by-set}
 use Rattle.names.specs.declared.octets.Octets.{Octets}
-use Rattle.names.specs.Octets.{bytes_in}
+use Rattle.names.specs.Octets.{same_octets}
 use Rattle.definitions.specs.declared.numbers.OutputHandle.{OutputHandle}
-use Rattle.tables.specs.Apart.{apart}
-use Rattle.tables.specs.Finds.{any, every}
-use Rattle.tables.proofs.Apart.{apart_push, apart_parts, apart-set}
-use Rattle.tables.proofs.Finds.{count_set, count_some, every_push, every_parts, every_weaker, every_beside, none_beside, any-map}
-use Rattle.links.specs.declared.handle.HandleState.{HandleState}
-use Rattle.links.specs.declared.handle.HandleState.TheVariants.{Free, Named}
 use Rattle.links.specs.declared.handle.HandleEntry.{HandleEntry}
-use Rattle.links.specs.Handles.{unused, handle_at, in_use, bears, bears_name, used_in, restated, vacant_at, same_handle, same_name, states_in}
+use Rattle.links.specs.Handles.{unused, handle_at, in_use, bears_name, used_in, restated, vacant_at, same_name}
 
-eqb_flip : (a b : ℕ) → eqb a b ≡ eqb b a
-eqb_flip a b =
-    ⊎_elim
-    (λ t. t ∙ sym (eq-eqb b a (sym (eqb-true a b t))))
-    (λ f. f ∙ sym (ne_eqb b a (λ e. eqb-false a b f (sym e))))
-    (cases_Bool (eqb a b))
+names_equal : IsEquivalence (same_octets {m = 64} {n = 64})
+names_equal = search (comparing, rules)
 
-bytes_flip : (xs ys : List ℕ) → bytes_eq xs ys ≡ bytes_eq ys xs
-bytes_flip [] [] = refl
-bytes_flip [] (y ∷ ys) = refl
-bytes_flip (x ∷ xs) [] = refl
-bytes_flip (x ∷ xs) (y ∷ ys) = ap (λ b. b && bytes_eq xs ys) (eqb_flip x y) ∙ ap (λ b. eqb y x && b) (bytes_flip xs ys)
-
-flip_handles : (g h : OutputHandle) → same_handle g h ≡ same_handle h g
-flip_handles g h = eqb_flip g.0 h.0
-
-flip_names : (s t : HandleState) → same_name s t ≡ same_name t s
-flip_names Free Free = refl
-flip_names Free (Named n) = refl
-flip_names (Named m) Free = refl
-flip_names (Named m) (Named n) = ap (λ b. b && bytes_eq (bytes_in n) (bytes_in m)) (eqb_flip n.len m.len) ∙ ap (λ b. eqb m.len n.len && b) (bytes_flip (bytes_in n) (bytes_in m))
-
--- What was popped stood last.
-pub popped : (vs us : List OutputHandle) (o : Option OutputHandle) (h : OutputHandle) → vs ≡ us ++ option_to_list o → o ≡ Some h → vs ≡ us ++ h ∷ []
-popped vs us o h p q = p ∙ ap (λ x. us ++ option_to_list x) q
-
-pub popped_len : (m n : ℕ) (o : Option OutputHandle) (h : OutputHandle) → m + length (option_to_list o) ≡ n → o ≡ Some h → m + 1 ≡ n
-popped_len m n o h p q = ap (λ x. m + length (option_to_list x)) (sym q) ∙ p
-
--- No name is Free's.
-free_clashes : (ss : List HandleState) → any (same_name Free) ss ≡ false
-free_clashes [] = refl
-free_clashes (s ∷ ss) = free_clashes ss
+flip_names : (e f : HandleEntry) → same_name e f ≡ same_name f e
+flip_names e f = go e.name f.name
+  where
+    go : (m n : Option (Octets 64)) → same_name (restated m e) (restated n f) ≡ same_name (restated n f) (restated m e)
+    go None None = refl
+    go None (Some n) = refl
+    go (Some m) None = refl
+    go (Some m) (Some n) = names_equal.symm n m
 
 -- A vacant handle is one of the table's, and stands free.
-pub vacant_below : (es : List HandleEntry) (h : OutputHandle) → vacant_at es h ≡ true → h.0 < 64
-vacant_below es h v = ltb-true h.0 64 (and_parts (ltb h.0 64) (not (in_use (handle_at es h.0))) v).0
-
-vacant-free : (es : List HandleEntry) (h : OutputHandle) → vacant_at es h ≡ true → in_use (handle_at es h.0) ≡ false
-vacant-free es h v = not-true (in_use (handle_at es h.0)) (and_parts (ltb h.0 64) (not (in_use (handle_at es h.0))) v).1
+pub vacant_parts : (es : List HandleEntry) (h : OutputHandle) → vacant_at es h ≡ true → (h.0 < 64) × (in_use (handle_at es h.0) ≡ false)
+vacant_parts es h v =
+    let p = and_parts (ltb h.0 64) (not (in_use (handle_at es h.0))) v in
+    (ltb-true h.0 64 p.0, not-true (in_use (handle_at es h.0)) p.1)
 
 -- A handle in use is one of the table's.
 pub used_below : (es : List HandleEntry) (h : ℕ) → length es ≡ 64 → in_use (handle_at es h) ≡ true → h < 64
-used_below es h w u =
-    ⊎_elim
-    (λ (l : h < 64). l)
-    (λ (l : 64 ≤ h). absurd (both_ways (in_use (handle_at es h)) (ap in_use (get_or_past es h unused (omega arith))) u))
-    (cases_lt h 64)
+used_below es h w u = grind (arith, get_or_past es h unused)
 
--- Another handle stands as it did.
-other_vacant : (es : List HandleEntry) (h : ℕ) (e : HandleEntry) (k : OutputHandle) → eqb h k.0 ≡ false → vacant_at (set es h e) k ≡ vacant_at es k
-other_vacant es h e k n =
-    let ne : k.0 ≢ h = λ q. eqb-false h k.0 n (sym q) in
-    ap (λ x. ltb k.0 64 && not (in_use x)) (get_or-set_other es h k.0 e unused ne)
+-- One handle stands otherwise.
+module _ (es : List HandleEntry) (whole : length es ≡ 64) (h : OutputHandle) (e : HandleEntry) where
+  other_vacant : (g : OutputHandle) → vacant_at es g ≡ true → g.0 ≢ h.0 → vacant_at (set es h.0 e) g ≡ true
+  other_vacant g v n = rw (get_or-set_other es h.0 g.0 e unused n) v
+
+  -- No name is in use twice where the new name was not in use.
+  pub still_distinct : AllPairs (λ e f. same_name e f ≡ false) es → All (λ f. same_name e f ≡ false) es → AllPairs (λ e f. same_name e f ≡ false) (set es h.0 e)
+  still_distinct distinct other i j d l m =
+      grind (arith, length-set es h.0 e, get_or-set_same es h.0 e d, get_or-set_other es h.0 i e d, get_or-set_other es h.0 j e d, distinct i j d l, other i d, other j d, flip_names e (get_or es i d))
 
 -- A name is given the last of the vacant handles.
-module _ (es : List HandleEntry) (vs us : List OutputHandle) (h : OutputHandle) (name : Octets 64) (whole : length es ≡ 64) (was : vs ≡ us ++ h ∷ []) (idle : every (vacant_at es) vs ≡ true) where
+module _ (es : List HandleEntry) (us : List OutputHandle) (h : OutputHandle) (name : Octets 64) (whole : length es ≡ 64) where
   abbrev given : List HandleEntry
-  given = set es h.0 (restated (Named name) (handle_at es h.0))
+  given = set es h.0 (restated (Some name) (handle_at es h.0))
 
-  parts : (every (vacant_at es) us ≡ true) × (vacant_at es h ≡ true)
-  parts = every_parts (vacant_at es) us h (subst (λ (ws : List OutputHandle). every (vacant_at es) ws ≡ true) was idle)
+  pub give_tally : vacant_at es h ≡ true → used_in given ≡ used_in es + 1
+  give_tally v =
+      let p = vacant_parts es h v in
+      omega (arith, subst (λ b. used_in given + cond b 1 0 ≡ used_in es + 1) p.1 (sum_by-set (λ e. cond (in_use e) 1 0) es h.0 (restated (Some name) (handle_at es h.0)) unused (rw whole p.0)))
 
-  pub give_below : h.0 < 64
-  give_below = vacant_below es h parts.1
+  pub give_idle : AllPass (vacant_at es) us → All (λ g. g.0 ≢ h.0) us → AllPass (vacant_at given) us
+  give_idle idle other k d l = other_vacant es whole h (restated (Some name) (handle_at es h.0)) (get_or us k d) (idle k d l) (other k d l)
 
-  pub give_tally : used_in given ≡ used_in es + 1
-  give_tally = omega (arith, subst (λ b. used_in given + cond b 1 0 ≡ used_in es + 1) (vacant-free es h parts.1) (count_set in_use es h.0 (restated (Named name) (handle_at es h.0)) unused (rw whole give_below)))
+  pub give_distinct : AllPairs (λ e f. same_name e f ≡ false) es → list_any (bears_name name) es ≡ false → AllPairs (λ e f. same_name e f ≡ false) given
+  give_distinct distinct unnamed =
+      still_distinct es whole h (restated (Some name) (handle_at es h.0)) distinct
+      (λ k d l. false_from_ne_true _ (λ t. both_ways (list_any (bears_name name) es) unnamed (list_any_at (bears_name name) es k d l t)))
 
-  alone : apart same_handle vs ≡ true → (apart same_handle us ≡ true) × (any (same_handle h) us ≡ false)
-  alone a = apart_parts same_handle flip_handles us h (subst (λ (ws : List OutputHandle). apart same_handle ws ≡ true) was a)
+-- What was vacant is, but for the last handle, and that is not among it.
+module _ (vs us : List OutputHandle) (h : OutputHandle) (was : vs ≡ us ++ h ∷ []) (once : AllPairs (λ g k. g.0 ≢ k.0) vs) where
+  kept : (k : ℕ) (d : OutputHandle) → k < length us → get_or vs k d ≡ get_or us k d
+  kept k d l = ap (λ ws. get_or ws k d) was ∙ get_or_append_left us (h ∷ []) d k l
 
-  pub give_idle : apart same_handle vs ≡ true → every (vacant_at given) us ≡ true
-  give_idle a =
-      every_beside (vacant_at es) (vacant_at given) (same_handle h) us
-      (λ k t n. other_vacant es h.0 (restated (Named name) (handle_at es h.0)) k n ∙ t)
-      parts.0 (alone a).1
+  last : (d : OutputHandle) → get_or vs (length us) d ≡ h
+  last d = ap (λ ws. get_or ws (length us) d) was ∙ get_or_push us h d (length us) refl
 
-  pub give_once : apart same_handle vs ≡ true → apart same_handle us ≡ true
-  give_once a = (alone a).0
+  pub pop_once : AllPairs (λ g k. g.0 ≢ k.0) us
+  pop_once i j d l m = rw (← kept i d (omega arith), ← kept j d m) (once i j d l (omega (arith, ap length was, length_push us h)))
 
-  pub give_distinct : apart same_name (states_in es) ≡ true → any (bears_name name) es ≡ false → apart same_name (states_in given) ≡ true
-  give_distinct d n =
-      let new = restated (Named name) (handle_at es h.0) in
-      subst (λ ss. apart same_name ss ≡ true) (sym (map-set (λ (e : HandleEntry). e.state) es h.0 new))
-      (apart-set same_name flip_names (states_in es) h.0 (Named name) d (any-map (λ (e : HandleEntry). e.state) (bears name) es ∙ n))
+  pub pop_other : All (λ g. g.0 ≢ h.0) us
+  pop_other k d l = rw (← kept k d l, ← last d) (once k (length us) d l (omega (arith, ap length was, length_push us h)))
 
 -- A handle in use is freed, and becomes the last of the vacant ones.
-module _ (es : List HandleEntry) (vs ws : List OutputHandle) (h : OutputHandle) (is : ws ≡ vs ++ h ∷ []) (whole : length es ≡ 64) (used : in_use (handle_at es h.0) ≡ true) where
+module _ (es : List HandleEntry) (vs : List OutputHandle) (h : OutputHandle) (whole : length es ≡ 64) (used : in_use (handle_at es h.0) ≡ true) (idle : AllPass (vacant_at es) vs) where
   abbrev freed : List HandleEntry
-  freed = set es h.0 (restated Free (handle_at es h.0))
+  freed = set es h.0 (restated None (handle_at es h.0))
+
+  other : (k : ℕ) (d : OutputHandle) → k < length vs → (get_or vs k d).0 ≢ h.0
+  other k d l e = both_ways (in_use (handle_at es h.0)) (subst (λ n. in_use (handle_at es n) ≡ false) e (vacant_parts es (get_or vs k d) (idle k d l)).1) used
 
   below : h.0 < length es
   below = rw whole (used_below es h.0 whole used)
 
   pub free_tally : used_in freed + 1 ≡ used_in es
-  free_tally = omega (arith, subst (λ b. used_in freed + cond b 1 0 ≡ used_in es + 0) used (count_set in_use es h.0 (restated Free (handle_at es h.0)) unused below))
+  free_tally = omega (arith, subst (λ b. used_in freed + cond b 1 0 ≡ used_in es + 0) used (sum_by-set (λ e. cond (in_use e) 1 0) es h.0 (restated None (handle_at es h.0)) unused below))
 
-  pub free_some : 0 < used_in es
-  free_some = count_some in_use es h.0 unused below used
+  pub free_idle : AllPass (vacant_at freed) (vs ++ h ∷ [])
+  free_idle =
+      All-push (λ g. vacant_at freed g ≡ true) vs h
+      (λ k d l. other_vacant es whole h (restated None (handle_at es h.0)) (get_or vs k d) (idle k d l) (other k d l))
+      (and_from (ltb h.0 64) (not (in_use (handle_at freed h.0))) (lt-ltb h.0 64 (used_below es h.0 whole used)) (ap (λ e. not (in_use e)) (get_or-set_same es h.0 (restated None (handle_at es h.0)) unused below)))
 
-  free_now : vacant_at freed h ≡ true
-  free_now =
-      and_from (ltb h.0 64) (not (in_use (handle_at freed h.0))) (lt-ltb h.0 64 (used_below es h.0 whole used))
-      (ap (λ x. not (in_use x)) (get_or-set_same es h.0 (restated Free (handle_at es h.0)) unused below))
+  pub free_once : AllPairs (λ g k. g.0 ≢ k.0) vs → AllPairs (λ g k. g.0 ≢ k.0) (vs ++ h ∷ [])
+  free_once once = all_pairs_push (λ g k. g.0 ≢ k.0) vs h once other
 
-  still_vacant : (k : OutputHandle) → vacant_at es k ≡ true → vacant_at freed k ≡ true
-  still_vacant k t =
-      ⊎_elim
-      (λ e. subst (λ n. vacant_at freed (record { 0 = n }) ≡ true) (eqb-true h.0 k.0 e) free_now)
-      (λ n. other_vacant es h.0 (restated Free (handle_at es h.0)) k n ∙ t)
-      (cases_Bool (eqb h.0 k.0))
-
-  pub free_idle : every (vacant_at es) vs ≡ true → every (vacant_at freed) ws ≡ true
-  free_idle v = rw is (every_push (vacant_at freed) vs h (every_weaker (vacant_at es) (vacant_at freed) vs still_vacant v) free_now)
-
-  pub free_once : every (vacant_at es) vs ≡ true → apart same_handle vs ≡ true → apart same_handle ws ≡ true
-  free_once v a =
-      rw is (apart_push same_handle flip_handles vs h a
-      (none_beside (vacant_at es) (same_handle h) vs
-      (λ k t. ne_eqb h.0 k.0 (λ q. both_ways (in_use (handle_at es k.0)) (vacant-free es k t) (subst (λ n. in_use (handle_at es n) ≡ true) q used)))
-      v))
-
-  pub free-distinct : apart same_name (states_in es) ≡ true → apart same_name (states_in freed) ≡ true
-  free-distinct d =
-      let new = restated Free (handle_at es h.0) in
-      subst (λ ss. apart same_name ss ≡ true) (sym (map-set (λ (e : HandleEntry). e.state) es h.0 new))
-      (apart-set same_name flip_names (states_in es) h.0 Free d (free_clashes (states_in es)))
+  pub free_distinct : AllPairs (λ e f. same_name e f ≡ false) es → AllPairs (λ e f. same_name e f ≡ false) freed
+  free_distinct distinct = still_distinct es whole h (restated None (handle_at es h.0)) distinct (λ k d l. refl)

@@ -1,9 +1,8 @@
 -- What the calls on a handle table do.
-use Rattle.std.specs.Prelude.{◌≡◌, List, [], ◌∷◌, ◌++◌, replicate, vec_items, slice_set}
+use Rattle.std.specs.Prelude.{◌≡◌, List, [], ◌∷◌, ◌++◌, replicate, Some, None, vec_items, slice_set}
 use Rattle.names.specs.declared.octets.Octets.{Octets}
 use Rattle.definitions.specs.declared.numbers.OutputHandle.{OutputHandle}
 use Rattle.links.specs.declared.handle.HandleEntry.{HandleEntry}
-use Rattle.links.specs.declared.handle.HandleState.TheVariants.{Free, Named}
 use Rattle.links.specs.declared.handle_table.HandleTable.{HandleTable}
 use Rattle.links.specs.Handles.{handle_at, restated, unused, countdown}
 
@@ -23,9 +22,9 @@ pub record Fresh (t : HandleTable) : Type 0 where
 -- The name gets the handle that is to be given next.
 pub record Gave (t : HandleTable) (name : Octets 64) (h : OutputHandle) (u : HandleTable) : Type 0 where
   pub vacant : vacant_of t ≡ vacant_of u ++ h ∷ []
-  pub entries : entries_of u ≡ slice_set (entries_of t) h.0 (restated (Named name) (handle_at (entries_of t) h.0))
+  pub entries : entries_of u ≡ slice_set (entries_of t) h.0 (restated (Some name) (handle_at (entries_of t) h.0))
 
 -- A handle in use is freed with its name, and is the one to be given next.
 pub record Freed (t : HandleTable) (h : OutputHandle) (u : HandleTable) : Type 0 where
   pub vacant : vacant_of u ≡ vacant_of t ++ h ∷ []
-  pub entries : entries_of u ≡ slice_set (entries_of t) h.0 (restated Free (handle_at (entries_of t) h.0))
+  pub entries : entries_of u ≡ slice_set (entries_of t) h.0 (restated None (handle_at (entries_of t) h.0))

@@ -1,5 +1,5 @@
 -- How the links of the link numbers stand: a list with a place for each number.
-use Rattle.std.specs.Prelude.{ℕ, Bool, true, false, List, replicate, ◌==◌, slice_index_or}
+use Rattle.std.specs.Prelude.{ℕ, Bool, true, false, cond, List, replicate, ◌==◌, slice_index_or}
 use Rattle.links.specs.declared.link.LinkState.{LinkState}
 use Rattle.links.specs.declared.link.LinkState.TheVariants.{Idle, Awaiting, Attached}
 use Rattle.links.specs.Relays.{output_of}
@@ -28,3 +28,7 @@ link_of links n = slice_index_or links n Idle
 -- no links at all
 abbrev pub no_links : List LinkState
 no_links = replicate 64 Idle
+
+-- a value, or b in its place where the test holds of it
+abbrev pub blanked : {X : Type 0} → (X → Bool) → X → X → X
+blanked fits b x = cond (fits x) b x

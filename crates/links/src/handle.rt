@@ -1,17 +1,23 @@
 //! How an output handle stands.
-use names::octets::Name;
+ghost use Rattle.std.specs.Prelude.{◌≡◌};
+ghost use Rattle.links.specs.Handles.{bears_name};
 
-/// Whether a handle is in use, and by which name.
-#[derive(Clone, Copy)]
-pub enum HandleState {
-    Free,
-    Named(Name),
-}
+use names::octets::Name;
 
 /// A place of the handle table.
 #[derive(Clone, Copy)]
 pub struct HandleEntry {
-    pub state: HandleState,
+    /// The name that the handle is in use by, if it is in use.
+    pub name: Option<Name>,
     /// A detach of ours freed the handle, and the peer's detach has not come since. The handle may be in use again.
     pub awaited: bool,
+}
+
+impl HandleEntry {
+    /// Whether the handle is in use by the name.
+    pub(crate) fn bears(&self, name: Name) -> bool
+        ensures { result ≡ bears_name name self.now }
+    {
+        self.name == Some(name)
+    }
 }

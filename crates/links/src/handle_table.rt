@@ -1,14 +1,12 @@
 //! The table of output handles.
-ghost use Rattle.std.specs.Prelude.{◌≡◌, ◌+◌, ◌≤◌, true, length, vec_len, vec_capacity};
-ghost use Rattle.tables.specs.Apart.{apart};
-ghost use Rattle.tables.specs.Finds.{every};
-ghost use Rattle.links.specs.Handles.{used_in, vacant_at, same_handle, same_name, states_in};
+ghost use Rattle.std.specs.Prelude.{◌≡◌, ◌≢◌, ◌+◌, ◌≤◌, false, length, vec_len, vec_capacity};
+ghost use Rattle.std.specs.List.{AllPass, AllPairs};
+ghost use Rattle.links.specs.Handles.{used_in, vacant_at, same_name};
 
 use crate::handle::HandleEntry;
 use definitions::numbers::OutputHandle;
 
 pub mod methods;
-mod sought;
 
 /// How many output handles can be in use.
 pub const HANDLES: usize = 64;
@@ -23,8 +21,8 @@ pub struct HandleTable {
     // Each handle is in use or vacant,
     ghost tally: { used_in entries + vec_len vacant ≡ 64 },
     // no vacant one is in use, and none is vacant twice;
-    ghost idle: { every (vacant_at entries) vacant.items ≡ true },
-    ghost once: { apart same_handle vacant.items ≡ true },
+    ghost idle: { AllPass (vacant_at entries) vacant.items },
+    ghost once: { AllPairs (λ g h. g.0 ≢ h.0) vacant.items },
     // and no name is in use twice.
-    ghost distinct: { apart same_name (states_in entries) ≡ true },
+    ghost distinct: { AllPairs (λ e f. same_name e f ≡ false) entries },
 }

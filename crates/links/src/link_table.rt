@@ -2,7 +2,6 @@
 use crate::link::LinkState;
 
 pub mod methods;
-pub mod sought;
 
 /// How many link numbers there are.
 pub const NUMBERS: usize = 64;

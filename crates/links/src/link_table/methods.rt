@@ -1,18 +1,16 @@
 //! Looking links up, and changing how they stand.
-ghost use Rattle.std.specs.Prelude.{◌≡◌, map, slice_set};
+ghost use Rattle.std.specs.Prelude.{◌≡◌, ◌<◌, map, slice_set, position, IfSome};
+ghost use Rattle.std.specs.List.{list_any};
 ghost use Rattle.std.specs.Option.{option_map};
 ghost use Rattle.definitions.specs.LinkNumbers.{number_of};
-ghost use Rattle.tables.specs.Finds.{any, place_of, blanked, Within};
 ghost use Rattle.links.specs.declared.link.LinkState.TheVariants.{Idle};
-ghost use Rattle.links.specs.Links.{is_idle, link_of, no_links, awaits_under, attached_under};
+ghost use Rattle.links.specs.Links.{is_idle, link_of, no_links, awaits_under, attached_under, blanked};
 ghost use Rattle.links.specs.LinkTables.{links_in};
 
-use super::sought::{AttachedLink, AwaitingAttach};
 use super::{LinkTable, NUMBERS};
 use crate::link::LinkState;
 use definitions::link_number::LinkNumber;
 use definitions::numbers::{InputHandle, OutputHandle};
-use tables::find::{contains, position, replace_all};
 
 impl LinkTable {
     /// A table without links.
@@ -35,10 +33,7 @@ impl LinkTable {
     pub fn is_idle(&self, link: LinkNumber) -> bool
         ensures { result ≡ is_idle (link_of (links_in self.now) (number_of link)) }
     {
-        match self.get(link) {
-            LinkState::Idle => true,
-            LinkState::Awaiting(_) | LinkState::Attached { .. } => false,
-        }
+        matches!(self.get(link), LinkState::Idle)
     }
 
     /// Changes how the link of the number stands.
@@ -50,44 +45,41 @@ impl LinkTable {
 
     /// The first link that waits for its attach with that output handle.
     pub fn awaiting(&self, handle: OutputHandle) -> Option<LinkNumber>
-        ensures { option_map number_of result ≡ place_of (awaits_under handle.0) (links_in self.now) }
+        ensures { option_map number_of result ≡ position (awaits_under handle.0) (links_in self.now) }
     {
-        numbered(position(&self.links[..], &AwaitingAttach(handle)))
+        numbered(self.links.iter().position(|link| link.awaits(handle)))
     }
 
     /// The first link that is attached under the input handle.
     pub fn attached(&self, handle: InputHandle) -> Option<LinkNumber>
-        ensures { option_map number_of result ≡ place_of (attached_under handle.0) (links_in self.now) }
+        ensures { option_map number_of result ≡ position (attached_under handle.0) (links_in self.now) }
     {
-        numbered(position(&self.links[..], &AttachedLink(handle)))
+        numbered(self.links.iter().position(|link| link.is_under(handle)))
     }
 
     /// Whether a link is attached under the input handle.
     pub fn has_attached(&self, handle: InputHandle) -> bool
-        ensures { result ≡ any (attached_under handle.0) (links_in self.now) }
+        ensures { result ≡ list_any (attached_under handle.0) (links_in self.now) }
     {
-        contains(&self.links[..], &AttachedLink(handle))
+        self.links.iter().any(|link| link.is_under(handle))
     }
 
     /// Takes away all links that wait for their attach with that output handle.
     pub fn forget(&mut self, handle: OutputHandle)
         ensures { links_in self.new ≡ map (blanked (awaits_under handle.0) Idle) (links_in self.old) }
     {
-        replace_all(
-            &mut self.links[..],
-            &AwaitingAttach(handle),
-            LinkState::Idle,
-        );
+        for link in self.links.iter_mut() {
+            if link.awaits(handle) {
+                *link = LinkState::Idle;
+            }
+        }
     }
 }
 
 /// The link number at a place of the table.
 fn numbered(place: Option<usize>) -> Option<LinkNumber>
-    requires { Within 64 place }
+    requires { IfSome place (λ i. i < 64) }
     ensures { option_map number_of result ≡ place }
 {
-    match place {
-        Some(i) => LinkNumber::new(i as u32),
-        None => None,
-    }
+    place.and_then(|i| LinkNumber::new(i as u32))
 }

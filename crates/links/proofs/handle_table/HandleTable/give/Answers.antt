@@ -1,17 +1,10 @@
-use Rattle.std.proofs.Common.{vec_items, vec_len, ◌∙◌, arith}
+use Rattle.std.proofs.Common.{◌≡◌, true, [], ◌∷◌, ◌++◌, vec_items, ap, ◌∙◌, arith}
+use Rattle.std.specs.Option.{option_to_list}
 use Rattle.std.proofs.lemmas.List.{length-set}
-use Rattle.links.specs.declared.handle.HandleState.TheVariants.{Named}
-use Rattle.links.specs.Handles.{handle_at, restated}
-use Rattle.links.proofs.Handles.{popped, popped_len, give_below, give_tally, give_idle, give_once, give_distinct}
+use Rattle.std.proofs.lemmas.List.Elements.{All-pop}
+use Rattle.links.specs.Handles.{vacant_at}
+use Rattle.links.proofs.Handles.{give_tally, give_idle, give_distinct, pop_once, pop_other}
 use Rattle.links.proofs.handle_table.HandleTable.give.Goals as goal
-
-pub bounds-self-handle : goal.bounds-self-handle
-bounds-self-handle c =
-    let s = c.args.self.now in
-    let vs = vec_items s.vacant in
-    let us = vec_items c.pop.new.self in
-    let h = c.unwrap-handle.result in
-    give_below s.entries vs us h c.args.name s.whole (popped vs us c.pop.result h c.pop.ensures.items c.unwrap-handle.ensures) s.idle
 
 pub invariant_of-self : goal.invariant_of-self
 invariant_of-self c =
@@ -20,13 +13,14 @@ invariant_of-self c =
     let vs = vec_items s.vacant in
     let us = vec_items c.pop.new.self in
     let h = c.unwrap-handle.result in
-    let name = c.args.name in
-    let was = popped vs us c.pop.result h c.pop.ensures.items c.unwrap-handle.ensures in
+    let was : vs ≡ us ++ h ∷ [] = c.pop.ensures.items ∙ ap (λ o. us ++ option_to_list o) c.unwrap-handle.ensures in
+    let idle = All-pop (λ g. vacant_at es g ≡ true) vs us c.pop.result c.pop.ensures.items s.idle in
+    let last : vacant_at es h ≡ true = rw c.unwrap-handle.ensures at idle.1 in
     record {
-      whole = length-set es h.0 (restated (Named name) (handle_at es h.0)) ∙ s.whole;
+      whole = length-set es h.0 _ ∙ s.whole;
       reserved = omega arith;
-      tally = omega (arith, give_tally es vs us h name s.whole was s.idle, popped_len (vec_len c.pop.new.self) (vec_len s.vacant) c.pop.result h c.pop.ensures.len c.unwrap-handle.ensures);
-      idle = give_idle es vs us h name s.whole was s.idle s.once;
-      once = give_once es vs us h name s.whole was s.idle s.once;
-      distinct = give_distinct es vs us h name s.whole was s.idle s.distinct c.requires.unnamed;
+      tally = omega (arith, give_tally es us h c.args.name s.whole last, rw c.unwrap-handle.ensures at c.pop.ensures.len);
+      idle = give_idle es us h c.args.name s.whole idle.0 (pop_other vs us h was s.once);
+      once = pop_once vs us h was s.once;
+      distinct = give_distinct es us h c.args.name s.whole s.distinct c.requires.unnamed;
     }
