@@ -1,6 +1,5 @@
 -- The transfers that wait.
-use Rattle.std.specs.Prelude.{ℕ, Bool, List, is_some}
-use Rattle.tables.specs.Finds.{count}
+use Rattle.std.specs.Prelude.{ℕ, Bool, List, is_some, count_by}
 use Rattle.deliveries.specs.declared.backlog.Waiting.{Waiting}
 
 -- whether something is to be booked when the transfer goes out
@@ -9,4 +8,4 @@ is_marked w = is_some w.mark
 
 -- how many of them are to be booked
 abbrev pub marked : List Waiting → ℕ
-marked ws = count is_marked ws
+marked ws = count_by is_marked ws

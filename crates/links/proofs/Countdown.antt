@@ -1,10 +1,10 @@
 -- The handles in the order in which a new table gives them, the last first.
-use Rattle.std.proofs.Common.{◌≡◌, ◌≢◌, ℕ, zero, suc, ◌+◌, ◌-◌, ◌<◌, ◌≤◌, true, List, [], ◌∷◌, ◌++◌, length, get_or, replicate, refl, ap, sym, subst, ◌∙◌, le_of_suc-le-suc, not-suc-le-zero, arith}
-use Rattle.std.specs.List.{AllPass, AllPairs}
-use Rattle.std.proofs.lemmas.Bool.{and_from, lt-ltb}
+use Rattle.std.proofs.Common.{◌≡◌, ℕ, zero, suc, ◌-◌, ◌<◌, ◌≤◌, List, ◌∷◌, ◌++◌, length, get_or, replicate, ap, sym, subst, ◌∙◌, le_of_suc-le-suc, not-suc-le-zero, arith}
+use Rattle.std.specs.List.{All}
 use Rattle.std.proofs.lemmas.List.{append-nil, get_or-replicate}
 use Rattle.definitions.specs.declared.numbers.OutputHandle.{OutputHandle}
-use Rattle.links.specs.Handles.{unused, vacant_at, countdown}
+use Rattle.links.specs.Handles.{unused, in_use, IsVacant, countdown}
+use Rattle.links.proofs.Handles.{Once}
 
 -- The first of them, and the rest.
 pub one_fewer : (n : ℕ) → 0 < n → countdown n ≡ record { 0 = n - 1 } ∷ countdown (n - 1)
@@ -29,13 +29,13 @@ module _ (hs : List OutputHandle) (n : ℕ) (none : n ≤ 0) (all : hs ++ countd
       let below : k < 64 = omega (arith, ap length whole) in
       (below, ap (λ ys. (get_or ys k d).0) whole ∙ at 64 k d below)
 
-  pub fresh_idle : AllPass (vacant_at (replicate 64 unused)) hs
+  pub fresh_idle : All (IsVacant (replicate 64 unused)) hs
   fresh_idle k d l =
       let p = place k d l in
       let below : (get_or hs k d).0 < 64 = omega arith in
-      and_from _ _ (lt-ltb (get_or hs k d).0 64 below) (rw (get_or-replicate 64 (get_or hs k d).0 unused unused below) refl)
+      (below, ap in_use (get_or-replicate 64 (get_or hs k d).0 unused unused below))
 
-  pub fresh_once : AllPairs (λ g h. g.0 ≢ h.0) hs
+  pub fresh_once : Once hs
   fresh_once i j d l m e =
       let p = place i d (omega arith) in
       let q = place j d m in

@@ -1,10 +1,10 @@
 -- The facts that a handle table keeps, when a handle is given or freed.
-use Rattle.std.proofs.Common.{◌≡◌, ◌≢◌, ℕ, ◌+◌, ◌<◌, true, false, cond, not, ◌&&◌, ltb, List, [], ◌∷◌, ◌++◌, length, set, get_or, Some, None, Option, sym, refl, ap, ◌∙◌, subst, ⊎_elim, arith, rules}
+use Rattle.std.proofs.Common.{◌≡◌, ◌≢◌, ℕ, ◌+◌, ◌<◌, true, false, cond, List, [], ◌∷◌, ◌++◌, length, set, get_or, Some, None, Option, refl, ap, ◌∙◌, subst, arith, rules}
 use Rattle.std.specs.Cmp.{IsEquivalence}
 use Rattle.std.specs.Cmp.Rules.{comparing}
-use Rattle.std.specs.List.{All, AllPass, AllPairs, list_any}
-use Rattle.std.proofs.lemmas.Bool.{and_parts, and_from, both_ways, cases_eq, false_from_ne_true, lt-ltb, ltb-true, not-true}
-use Rattle.std.proofs.lemmas.List.{length-set, get_or_append_left, length_push, get_or_push, get_or-set_same, get_or-set_other, get_or_past}
+use Rattle.std.specs.List.{All, AllPairs, list_any}
+use Rattle.std.proofs.lemmas.Bool.{both_ways, false_from_ne_true}
+use Rattle.std.proofs.lemmas.List.{length-set, length_push, get_or_append_left, get_or_push, get_or-set_same, get_or-set_other, get_or_past}
 use Rattle.std.proofs.lemmas.List.Elements.{All-push}
 use Rattle.std.proofs.lemmas.List.Folds.{list_any_at}
 use Rattle.std.proofs.lemmas.List.Quantifiers.{all_pairs_push}
@@ -13,7 +13,14 @@ use Rattle.names.specs.declared.octets.Octets.{Octets}
 use Rattle.names.specs.Octets.{same_octets}
 use Rattle.definitions.specs.declared.numbers.OutputHandle.{OutputHandle}
 use Rattle.links.specs.declared.handle.HandleEntry.{HandleEntry}
-use Rattle.links.specs.Handles.{unused, handle_at, in_use, bears_name, used_in, restated, vacant_at, same_name}
+use Rattle.links.specs.Handles.{unused, handle_at, in_use, bears_name, used_in, restated, IsVacant, same_name}
+
+-- No handle is there twice; no name is in use twice.
+abbrev pub Once : List OutputHandle → Type 0
+Once vs = AllPairs (λ g h. g.0 ≢ h.0) vs
+
+abbrev pub Distinct : List HandleEntry → Type 0
+Distinct es = AllPairs (λ e f. same_name e f ≡ false) es
 
 names_equal : IsEquivalence (same_octets {m = 64} {n = 64})
 names_equal = search (comparing, rules)
@@ -27,80 +34,72 @@ flip_names e f = go e.name f.name
     go (Some m) None = refl
     go (Some m) (Some n) = names_equal.symm n m
 
--- A vacant handle is one of the table's, and stands free.
-pub vacant_parts : (es : List HandleEntry) (h : OutputHandle) → vacant_at es h ≡ true → (h.0 < 64) × (in_use (handle_at es h.0) ≡ false)
-vacant_parts es h v =
-    let p = and_parts (ltb h.0 64) (not (in_use (handle_at es h.0))) v in
-    (ltb-true h.0 64 p.0, not-true (in_use (handle_at es h.0)) p.1)
-
--- A handle in use is one of the table's.
-pub used_below : (es : List HandleEntry) (h : ℕ) → length es ≡ 64 → in_use (handle_at es h) ≡ true → h < 64
-used_below es h w u = grind (arith, get_or_past es h unused)
-
 -- One handle stands otherwise.
-module _ (es : List HandleEntry) (whole : length es ≡ 64) (h : OutputHandle) (e : HandleEntry) where
-  other_vacant : (g : OutputHandle) → vacant_at es g ≡ true → g.0 ≢ h.0 → vacant_at (set es h.0 e) g ≡ true
-  other_vacant g v n = rw (get_or-set_other es h.0 g.0 e unused n) v
+module _ (es : List HandleEntry) (h : OutputHandle) (e : HandleEntry) where
+  other_vacant : (g : OutputHandle) → IsVacant es g → g.0 ≢ h.0 → IsVacant (set es h.0 e) g
+  other_vacant g v n = (v.0, rw (get_or-set_other es h.0 g.0 e unused n) v.1)
 
-  -- No name is in use twice where the new name was not in use.
-  pub still_distinct : AllPairs (λ e f. same_name e f ≡ false) es → All (λ f. same_name e f ≡ false) es → AllPairs (λ e f. same_name e f ≡ false) (set es h.0 e)
+  -- No name is in use twice where the new one was not in use.
+  still_distinct : Distinct es → All (λ f. same_name e f ≡ false) es → Distinct (set es h.0 e)
   still_distinct distinct other i j d l m =
       grind (arith, length-set es h.0 e, get_or-set_same es h.0 e d, get_or-set_other es h.0 i e d, get_or-set_other es h.0 j e d, distinct i j d l, other i d, other j d, flip_names e (get_or es i d))
 
--- A name is given the last of the vacant handles.
-module _ (es : List HandleEntry) (us : List OutputHandle) (h : OutputHandle) (name : Octets 64) (whole : length es ≡ 64) where
-  abbrev given : List HandleEntry
-  given = set es h.0 (restated (Some name) (handle_at es h.0))
+  tally : h.0 < length es → used_in (set es h.0 e) + cond (in_use (handle_at es h.0)) 1 0 ≡ used_in es + cond (in_use e) 1 0
+  tally l = sum_by-set (λ x. cond (in_use x) 1 0) es h.0 e unused l
 
-  pub give_tally : vacant_at es h ≡ true → used_in given ≡ used_in es + 1
-  give_tally v =
-      let p = vacant_parts es h v in
-      omega (arith, subst (λ b. used_in given + cond b 1 0 ≡ used_in es + 1) p.1 (sum_by-set (λ e. cond (in_use e) 1 0) es h.0 (restated (Some name) (handle_at es h.0)) unused (rw whole p.0)))
-
-  pub give_idle : AllPass (vacant_at es) us → All (λ g. g.0 ≢ h.0) us → AllPass (vacant_at given) us
-  give_idle idle other k d l = other_vacant es whole h (restated (Some name) (handle_at es h.0)) (get_or us k d) (idle k d l) (other k d l)
-
-  pub give_distinct : AllPairs (λ e f. same_name e f ≡ false) es → list_any (bears_name name) es ≡ false → AllPairs (λ e f. same_name e f ≡ false) given
-  give_distinct distinct unnamed =
-      still_distinct es whole h (restated (Some name) (handle_at es h.0)) distinct
-      (λ k d l. false_from_ne_true _ (λ t. both_ways (list_any (bears_name name) es) unnamed (list_any_at (bears_name name) es k d l t)))
-
--- What was vacant is, but for the last handle, and that is not among it.
-module _ (vs us : List OutputHandle) (h : OutputHandle) (was : vs ≡ us ++ h ∷ []) (once : AllPairs (λ g k. g.0 ≢ k.0) vs) where
+-- The last of the vacant handles is taken, and is not among the others.
+module _ (vs us : List OutputHandle) (h : OutputHandle) (was : vs ≡ us ++ h ∷ []) (once : Once vs) where
   kept : (k : ℕ) (d : OutputHandle) → k < length us → get_or vs k d ≡ get_or us k d
   kept k d l = ap (λ ws. get_or ws k d) was ∙ get_or_append_left us (h ∷ []) d k l
 
   last : (d : OutputHandle) → get_or vs (length us) d ≡ h
   last d = ap (λ ws. get_or ws (length us) d) was ∙ get_or_push us h d (length us) refl
 
-  pub pop_once : AllPairs (λ g k. g.0 ≢ k.0) us
+  pub pop_once : Once us
   pop_once i j d l m = rw (← kept i d (omega arith), ← kept j d m) (once i j d l (omega (arith, ap length was, length_push us h)))
 
   pub pop_other : All (λ g. g.0 ≢ h.0) us
   pop_other k d l = rw (← kept k d l, ← last d) (once k (length us) d l (omega (arith, ap length was, length_push us h)))
 
+-- A name is given a vacant handle.
+module _ (es : List HandleEntry) (whole : length es ≡ 64) (h : OutputHandle) (vacant : IsVacant es h) (name : Octets 64) where
+  abbrev named : HandleEntry
+  named = restated (Some name) (handle_at es h.0)
+
+  pub give_tally : used_in (set es h.0 named) ≡ used_in es + 1
+  give_tally = omega (arith, rw vacant.1 at (tally es h named (rw whole vacant.0)))
+
+  pub give_idle : (us : List OutputHandle) → All (IsVacant es) us → All (λ g. g.0 ≢ h.0) us → All (IsVacant (set es h.0 named)) us
+  give_idle us idle other k d l = other_vacant es h named (get_or us k d) (idle k d l) (other k d l)
+
+  pub give_distinct : Distinct es → list_any (bears_name name) es ≡ false → Distinct (set es h.0 named)
+  give_distinct distinct unnamed =
+      still_distinct es h named distinct
+      (λ k d l. false_from_ne_true _ (λ t. both_ways (list_any (bears_name name) es) unnamed (list_any_at (bears_name name) es k d l t)))
+
 -- A handle in use is freed, and becomes the last of the vacant ones.
-module _ (es : List HandleEntry) (vs : List OutputHandle) (h : OutputHandle) (whole : length es ≡ 64) (used : in_use (handle_at es h.0) ≡ true) (idle : AllPass (vacant_at es) vs) where
-  abbrev freed : List HandleEntry
-  freed = set es h.0 (restated None (handle_at es h.0))
+module _ (es : List HandleEntry) (whole : length es ≡ 64) (h : OutputHandle) (used : in_use (handle_at es h.0) ≡ true) (vs : List OutputHandle) (idle : All (IsVacant es) vs) where
+  abbrev free : HandleEntry
+  free = restated None (handle_at es h.0)
 
-  other : (k : ℕ) (d : OutputHandle) → k < length vs → (get_or vs k d).0 ≢ h.0
-  other k d l e = both_ways (in_use (handle_at es h.0)) (subst (λ n. in_use (handle_at es n) ≡ false) e (vacant_parts es (get_or vs k d) (idle k d l)).1) used
+  -- a handle beyond the table is not in use
+  below : h.0 < 64
+  below = grind (arith, get_or_past es h.0 unused)
 
-  below : h.0 < length es
-  below = rw whole (used_below es h.0 whole used)
+  other : All (λ g. g.0 ≢ h.0) vs
+  other k d l e = both_ways (in_use (handle_at es h.0)) (subst (λ n. in_use (handle_at es n) ≡ false) e (idle k d l).1) used
 
-  pub free_tally : used_in freed + 1 ≡ used_in es
-  free_tally = omega (arith, subst (λ b. used_in freed + cond b 1 0 ≡ used_in es + 0) used (sum_by-set (λ e. cond (in_use e) 1 0) es h.0 (restated None (handle_at es h.0)) unused below))
+  pub free_tally : used_in (set es h.0 free) + 1 ≡ used_in es
+  free_tally = omega (arith, rw used at (tally es h free (rw whole below)))
 
-  pub free_idle : AllPass (vacant_at freed) (vs ++ h ∷ [])
+  pub free_idle : All (IsVacant (set es h.0 free)) (vs ++ h ∷ [])
   free_idle =
-      All-push (λ g. vacant_at freed g ≡ true) vs h
-      (λ k d l. other_vacant es whole h (restated None (handle_at es h.0)) (get_or vs k d) (idle k d l) (other k d l))
-      (and_from (ltb h.0 64) (not (in_use (handle_at freed h.0))) (lt-ltb h.0 64 (used_below es h.0 whole used)) (ap (λ e. not (in_use e)) (get_or-set_same es h.0 (restated None (handle_at es h.0)) unused below)))
+      All-push (IsVacant (set es h.0 free)) vs h
+      (λ k d l. other_vacant es h free (get_or vs k d) (idle k d l) (other k d l))
+      (below, ap in_use (get_or-set_same es h.0 free unused (rw whole below)))
 
-  pub free_once : AllPairs (λ g k. g.0 ≢ k.0) vs → AllPairs (λ g k. g.0 ≢ k.0) (vs ++ h ∷ [])
+  pub free_once : Once vs → Once (vs ++ h ∷ [])
   free_once once = all_pairs_push (λ g k. g.0 ≢ k.0) vs h once other
 
-  pub free_distinct : AllPairs (λ e f. same_name e f ≡ false) es → AllPairs (λ e f. same_name e f ≡ false) freed
-  free_distinct distinct = still_distinct es whole h (restated None (handle_at es h.0)) distinct (λ k d l. refl)
+  pub free_distinct : Distinct es → Distinct (set es h.0 free)
+  free_distinct distinct = still_distinct es h free distinct (λ k d l. refl)

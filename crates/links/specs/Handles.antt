@@ -1,5 +1,5 @@
 -- How the output handles stand: a list with a place for each handle, and the handles that are not in use.
-use Rattle.std.specs.Prelude.{ℕ, zero, suc, Bool, false, not, ◌&&◌, List, [], ◌∷◌, Some, None, Option, is_some, nat_lt, slice_index_or, count_by}
+use Rattle.std.specs.Prelude.{◌≡◌, ℕ, zero, suc, ◌<◌, Bool, false, ◌&&◌, List, [], ◌∷◌, Some, None, Option, is_some, slice_index_or, count_by}
 use Rattle.std.specs.Option.{option_eq}
 use Rattle.names.specs.declared.octets.Octets.{Octets}
 use Rattle.names.specs.Octets.{same_octets}
@@ -30,9 +30,9 @@ used_in entries = count_by in_use entries
 abbrev pub restated : Option (Octets 64) → HandleEntry → HandleEntry
 restated n e = record { name = n; awaited = e.awaited }
 
--- whether a handle of the table is not in use
-abbrev pub vacant_at : List HandleEntry → OutputHandle → Bool
-vacant_at entries h = nat_lt h.0 64 && not (in_use (handle_at entries h.0))
+-- a handle of the table that is not in use
+abbrev pub IsVacant : List HandleEntry → OutputHandle → Type 0
+IsVacant entries h = (h.0 < 64) × (in_use (handle_at entries h.0) ≡ false)
 
 -- whether two handles are in use by one name
 abbrev pub same_name : HandleEntry → HandleEntry → Bool

@@ -1,7 +1,7 @@
 //! The table of output handles.
 ghost use Rattle.std.specs.Prelude.{◌≡◌, ◌≢◌, ◌+◌, ◌≤◌, false, length, vec_len, vec_capacity};
-ghost use Rattle.std.specs.List.{AllPass, AllPairs};
-ghost use Rattle.links.specs.Handles.{used_in, vacant_at, same_name};
+ghost use Rattle.std.specs.List.{All, AllPairs};
+ghost use Rattle.links.specs.Handles.{used_in, IsVacant, same_name};
 
 use crate::handle::HandleEntry;
 use definitions::numbers::OutputHandle;
@@ -21,7 +21,7 @@ pub struct HandleTable {
     // Each handle is in use or vacant,
     ghost tally: { used_in entries + vec_len vacant ≡ 64 },
     // no vacant one is in use, and none is vacant twice;
-    ghost idle: { AllPass (vacant_at entries) vacant.items },
+    ghost idle: { All (IsVacant entries) vacant.items },
     ghost once: { AllPairs (λ g h. g.0 ≢ h.0) vacant.items },
     // and no name is in use twice.
     ghost distinct: { AllPairs (λ e f. same_name e f ≡ false) entries },

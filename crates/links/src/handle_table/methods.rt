@@ -17,7 +17,7 @@ impl HandleTable {
         ensures { IfOk result Fresh }
     {
         let mut vacant = Vec::with_capacity(heap, HANDLES)?;
-        for h in (0..64u32).rev() {
+        for h in (0..HANDLES as u32).rev() {
             vacant.push_reserved(OutputHandle(h));
         }
         let unused = HandleEntry {
@@ -34,8 +34,10 @@ impl HandleTable {
     pub fn find(&self, name: Name) -> Option<OutputHandle>
         ensures { option_map (λ h. h.0) result ≡ position (bears_name name) (entries_of self.now) }
     {
-        let place = self.entries.iter().position(|entry| entry.bears(name));
-        place.map(|h| OutputHandle(h as u32))
+        self.entries
+            .iter()
+            .position(|entry| entry.bears(name))
+            .map(|h| OutputHandle(h as u32))
     }
 
     /// Whether the name is in use.

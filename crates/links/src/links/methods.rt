@@ -53,13 +53,9 @@ impl Links {
         if self.handles.is_full() {
             return Err(AllocLinkError::HandlesFull);
         }
-        let Some(number) = LinkNumber::new(link) else {
-            return Err(AllocLinkError::LinkNumber(link));
-        };
-        if !self.table.is_idle(number) {
-            return Err(AllocLinkError::LinkNumber(link));
-        }
-        Ok(number)
+        LinkNumber::new(link)
+            .filter(|number| self.table.is_idle(*number))
+            .ok_or(AllocLinkError::LinkNumber(link))
     }
 
     /// Frees the handle with its name, and tells whether it was in use. A link that is attached stays so.
@@ -82,12 +78,14 @@ impl Links {
     ) -> Result<LinkNumber, SessionInnerError>
         ensures { Attachable (tables_of self.now) name handle result }
     {
-        let Some(output) = self.handles.find(name) else {
-            return Err(SessionInnerError::RemoteAttachingLinkNameNotFound(handle));
-        };
-        let Some(number) = self.table.awaiting(output) else {
-            return Err(SessionInnerError::HandleInUse(handle));
-        };
+        let output = self
+            .handles
+            .find(name)
+            .ok_or(SessionInnerError::RemoteAttachingLinkNameNotFound(handle))?;
+        let number = self
+            .table
+            .awaiting(output)
+            .ok_or(SessionInnerError::HandleInUse(handle))?;
         if self.table.has_attached(handle) {
             return Err(SessionInnerError::HandleInUse(handle));
         }
@@ -98,13 +96,12 @@ impl Links {
     pub fn attach(&mut self, link: LinkNumber, handle: InputHandle, mode: ReceiverSettleMode)
         ensures { tables_of self.new ≡ attached (tables_of self.old) (number_of link) handle mode }
     {
-        let state = match self.table.get(link) {
-            LinkState::Awaiting(relay) => LinkState::Attached {
+        if let LinkState::Awaiting(relay) = self.table.get(link) {
+            let state = LinkState::Attached {
                 input_handle: handle,
                 relay: relay.with_receiver_settle_mode(mode),
-            },
-            other => other,
-        };
-        self.table.set(link, state);
+            };
+            self.table.set(link, state);
+        }
     }
 }

@@ -7,5 +7,5 @@ use Rattle.links.proofs.handle_table.HandleTable.find.Goals as goal
 
 pub returns : goal.returns
 returns c =
-    let handle : option_map (λ h. h.0) c.map.result ≡ c.position-place.result = search rules in
-    handle ∙ position_from_yields_List (bears_name c.args.name) _ _ _ c.position-place.ensures.ran (YieldsList-from_slice c.args.self.now.entries cc) (λ x b q k. search rules)
+    let handle : option_map (λ h. h.0) c.map.result ≡ c.position.result = search rules in
+    handle ∙ position_from_yields_List (bears_name c.args.name) _ _ _ c.position.ensures.ran (YieldsList-from_slice c.args.self.now.entries cc) (λ x b q k. search rules)

@@ -1,3 +1,0 @@
-pub mod Apart
-pub mod Finds
-pub mod Loops
