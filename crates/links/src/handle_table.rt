@@ -12,6 +12,7 @@ pub mod methods;
 pub const HANDLES: usize = 64;
 
 /// How each output handle stands, and the handles that are not in use, the next one to be given last.
+// An array and a stack that never grows, and no map: a session takes no memory after its opening.
 #[derive(Drop)]
 pub struct HandleTable {
     entries: [HandleEntry; HANDLES],

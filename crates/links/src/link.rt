@@ -28,7 +28,7 @@ impl LinkState {
     }
 
     /// Whether the link is attached under that input handle.
-    pub(crate) fn is_under(&self, handle: InputHandle) -> bool
+    pub(crate) fn is_attached_under(&self, handle: InputHandle) -> bool
         ensures { result ≡ attached_under handle.0 self.now }
     {
         matches!(self, LinkState::Attached { input_handle, .. } if *input_handle == handle)

@@ -7,6 +7,7 @@ pub mod methods;
 pub const NUMBERS: usize = 64;
 
 /// How the link of each link number stands.
+// An array, and no map: a session takes no memory after its opening.
 #[derive(Clone, Copy)]
 pub struct LinkTable {
     links: [LinkState; NUMBERS],

@@ -17,6 +17,7 @@ impl HandleTable {
         ensures { IfOk result Fresh }
     {
         let mut vacant = Vec::with_capacity(heap, HANDLES)?;
+        // A loop and no `collect`: what that makes of a range from its end does not prove by itself.
         for h in (0..HANDLES as u32).rev() {
             vacant.push_reserved(OutputHandle(h));
         }

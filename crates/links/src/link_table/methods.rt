@@ -54,14 +54,18 @@ impl LinkTable {
     pub fn attached(&self, handle: InputHandle) -> Option<LinkNumber>
         ensures { option_map number_of result ≡ position (attached_under handle.0) (links_in self.now) }
     {
-        numbered(self.links.iter().position(|link| link.is_under(handle)))
+        numbered(
+            self.links
+                .iter()
+                .position(|link| link.is_attached_under(handle)),
+        )
     }
 
     /// Whether a link is attached under the input handle.
     pub fn has_attached(&self, handle: InputHandle) -> bool
         ensures { result ≡ list_any (attached_under handle.0) (links_in self.now) }
     {
-        self.links.iter().any(|link| link.is_under(handle))
+        self.links.iter().any(|link| link.is_attached_under(handle))
     }
 
     /// Takes away all links that wait for their attach with that output handle.
