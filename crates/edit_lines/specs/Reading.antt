@@ -90,3 +90,7 @@ row_in text =
 abbrev pub change_in : List (List ℕ) → Result Changed Unreadable
 change_in words =
     and_then (text_in Was words) (λ w. and_then (text_in Now words) (λ n. Ok (record { was = w; becomes = n })))
+
+-- the whole edit: what is wrong with the row comes before what is wrong with the change
+abbrev pub edit_in : List ℕ → Result (Key × Changed) Unreadable
+edit_in text = and_then (row_in text) (λ k. and_then (change_in (later_words text)) (λ c. Ok (k, c)))

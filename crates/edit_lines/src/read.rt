@@ -1,8 +1,8 @@
-//! The whole line of an edit, in two looks: which row it edits, and how the row's value changes.
+//! The whole line of an edit: which row it edits, and how the row's value changes.
 ghost use Rattle.std.specs.Prelude.{◌≡◌};
 ghost use Rattle.lines.specs.Words.{later_words};
 ghost use Rattle.rows.specs.Keys.{key_of};
-ghost use Rattle.edit_lines.specs.Reading.{change_in, change_of, mapped_ok, row_in};
+ghost use Rattle.edit_lines.specs.Reading.{change_in, change_of, edit_in, mapped_ok, row_in};
 
 use crate::fields::{link_of, tag_of, value_of};
 use crate::unreadable::{Field, Unreadable};
@@ -40,4 +40,11 @@ pub fn read_change(text: &[u8]) -> Result<Change<'_>, Unreadable>
     let was = value_of(&line, Field::Was)?;
     let becomes = value_of(&line, Field::Now)?;
     Ok(Change { was, becomes })
+}
+
+/// The row that a line edits and how its value changes, or why the line is no edit.
+pub fn read_edit(text: &[u8]) -> Result<(Row, Change<'_>), Unreadable>
+    ensures { mapped_ok (λ edit. (key_of edit.0, change_of edit.1)) result ≡ edit_in text.now }
+{
+    Ok((read_row(text)?, read_change(text)?))
 }

@@ -1,12 +1,9 @@
 //! Lines that are edits, and lines that are none.
-use edit_lines::read::{read_change, read_row};
+use edit_lines::read::read_edit;
 use edit_lines::unreadable::{Field, Unreadable};
 
 fn why(text: &[u8]) -> Option<Unreadable> {
-    match (read_row(text), read_change(text)) {
-        (Err(why), _) | (_, Err(why)) => Some(why),
-        _ => None,
-    }
+    read_edit(text).err()
 }
 
 #[test]

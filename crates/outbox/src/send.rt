@@ -11,7 +11,6 @@ use definitions::numbers::{DeliveryState, Handle};
 use frames::performatives::Transfer;
 use frames::session::{Payload, SessionFrame, SessionFrameBody};
 use queue::Queue;
-use rows::answers::Standing;
 use rows::keeper::Keeper;
 use rows::row::Row;
 
@@ -55,12 +54,7 @@ impl<K: Keeper> Outbox<K> {
         if self.memory.differs(edit.row, edit.was) {
             return Err(EditError::ValueDiffers);
         }
-        // A match is plainest: one of the three answers is no refusal.
-        match self.keeper.ask(edit.row) {
-            Standing::Pending => return Err(EditError::RowOpen),
-            Standing::Neither => return Err(EditError::NoPlace),
-            Standing::Place => {}
-        }
+        self.keeper.ask(edit.row).admit(edit.row.link())?;
         if room == 0 {
             return Err(EditError::WireFull);
         }

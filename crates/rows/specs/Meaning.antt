@@ -57,6 +57,11 @@ abbrev pub subject : KeeperError → ℕ
 subject (RowOpen l) = number_of l
 subject (NoPlace l) = number_of l
 
+-- A standing lets a row of the link in where it is a place. Another refuses it: at the same standings, and with the link.
+abbrev pub Admitted : Standing → ℕ → Result (Unit {0}) KeeperError → Type 0
+Admitted w l (Ok u) = w ≡ Place
+Admitted w l (Err e) = ((refusal e).given ≡ (standing w).given) × (subject e ≡ l)
+
 module _ {S : Type 0} (stands : S → Key → Stand) where
   -- t has the rows and the places of s.
   abbrev pub Same : S → S → Type 0

@@ -1,6 +1,8 @@
 //! What a keeper answers.
 use definitions::link_number::LinkNumber;
 
+pub mod admission;
+
 /// How a row stands with a keeper.
 #[derive(Clone, Copy, PartialEq, Eq, Debug)]
 pub enum Standing {

@@ -2,7 +2,7 @@
 ghost use Rattle.std.specs.Prelude.{◌≡◌};
 ghost use Rattle.salfjung.specs.Input.{says_nothing};
 
-use edit_lines::read::{Change, read_change, read_row};
+use edit_lines::read::{Change, read_edit};
 use edit_lines::unreadable::Unreadable;
 use outbox::edit::Edit;
 
@@ -14,8 +14,7 @@ pub(crate) fn says_nothing(line: &[u8]) -> bool
 }
 
 /// The edit that a line says, or why it says none.
-pub(crate) fn read_edit(line: &[u8]) -> Result<Edit<'_>, Unreadable> {
-    let row = read_row(line)?;
-    let Change { was, becomes } = read_change(line)?;
+pub(crate) fn edit_of(line: &[u8]) -> Result<Edit<'_>, Unreadable> {
+    let (row, Change { was, becomes }) = read_edit(line)?;
     Ok(Edit { row, was, becomes })
 }

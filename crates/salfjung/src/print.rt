@@ -1,5 +1,4 @@
 //! How things look in print: frames with Part 2's fields in its order, absent fields left out.
-use edit_lines::unreadable::{Field, Unreadable};
 use frames::performatives::Transfer;
 use frames::session::Payload;
 use std::fmt;
@@ -73,35 +72,4 @@ impl fmt::Display for TransferLine<'_> {
 /// How a flag is printed.
 fn yes_no(flag: bool) -> &'static str {
     if flag { "yes" } else { "no" }
-}
-
-/// The key of a field.
-fn key(field: Field) -> &'static str {
-    match field {
-        Field::Link => "link",
-        Field::Tag => "tag",
-        Field::Was => "was",
-        Field::Now => "now",
-    }
-}
-
-/// Why a line is no edit.
-#[derive(Drop)]
-pub(crate) struct UnreadableText(pub Unreadable);
-
-impl fmt::Display for UnreadableText {
-    fn fmt<W: fmt::Write>(&self, f: &mut fmt::Formatter<W>) -> fmt::Result {
-        match self.0 {
-            Unreadable::UnknownVerb => f.write_str("the verb is not edit"),
-            Unreadable::StrayWord => f.write_str("a word is unknown or stands twice"),
-            Unreadable::Missing(field) => {
-                let key = key(field);
-                write!(f, "{key} is missing")
-            }
-            Unreadable::BadValue(field) => {
-                let key = key(field);
-                write!(f, "{key} cannot hold that value")
-            }
-        }
-    }
 }

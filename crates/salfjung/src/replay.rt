@@ -1,6 +1,6 @@
 //! The run over the lines of the input.
-use crate::input::{read_edit, says_nothing};
-use crate::print::{Hex, TransferLine, UnreadableText};
+use crate::input::{edit_of, says_nothing};
+use crate::print::{Hex, TransferLine};
 use crate::tally::Tally;
 use frames::performatives::End;
 use frames::session::{SessionFrame, SessionFrameBody};
@@ -61,10 +61,10 @@ impl Replay<'_, '_> {
         if says_nothing(line) {
             return Ok(());
         }
-        match read_edit(line) {
+        match edit_of(line) {
             Ok(edit) => self.send(number, edit),
             Err(why) => {
-                println!(self.rt; "line {number}: {}", UnreadableText(why))?;
+                println!(self.rt; "line {number}: {why}")?;
                 Ok(())
             }
         }

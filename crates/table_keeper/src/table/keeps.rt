@@ -38,17 +38,12 @@ impl Keeper for TableKeeper {
     }
 
     fn pledge(&mut self, row: Row) -> Result<(), KeeperError> {
-        match self.ask(row) {
-            Standing::Pending => Err(KeeperError::RowOpen(row.link())),
-            Standing::Neither => Err(KeeperError::NoPlace(row.link())),
-            Standing::Place => {
-                self.slots.push_reserved(PendingRow {
-                    row,
-                    state: DeliveryState::None,
-                });
-                Ok(())
-            }
-        }
+        self.ask(row).admit(row.link())?;
+        self.slots.push_reserved(PendingRow {
+            row,
+            state: DeliveryState::None,
+        });
+        Ok(())
     }
 
     fn settle(&mut self, row: Row) -> bool {
