@@ -7,8 +7,8 @@
 //! - [`record`]: a record, and which row it names.
 //! - [`marking`]: the keeper; `marking::methods` opens it and gives it up, `marking::keeps` makes it a keeper.
 //!
-//! What the contracts say is in `specs/`: `Records` (which row a record names, what a mark changes), `Firsts`
-//! (the first of a list that passes a test) and `Marking` (how a row stands, and the rule of places).
+//! What the contracts say is in `specs/`: `Records` (which row a record names, what a mark changes) and `Marking`
+//! (how a row stands, the rule of places, and that the records are the same loan).
 
 #![tactic(auto)]
 

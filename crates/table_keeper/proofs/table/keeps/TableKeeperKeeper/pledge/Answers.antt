@@ -1,7 +1,8 @@
-use Rattle.std.proofs.Common.{arith}
+use Rattle.std.proofs.Common.{◌≡◌, true, subst, arith}
 use Rattle.definitions.specs.declared.numbers.DeliveryState.TheVariants.{None}
 use Rattle.rows.specs.Keys.{key_of}
-use Rattle.table_keeper.specs.Table.{slots_of}
+use Rattle.rows.specs.Meaning.{standing}
+use Rattle.table_keeper.specs.Table.{slots_of, stand}
 use Rattle.table_keeper.proofs.Moves.{free_parts, pledged}
 use Rattle.table_keeper.proofs.Slots.{apart-push}
 use Rattle.table_keeper.proofs.table.keeps.TableKeeperKeeper.pledge.Goals as goal
@@ -9,13 +10,17 @@ use Rattle.table_keeper.proofs.table.keeps.TableKeeperKeeper.pledge.Goals as goa
 pub invariant_of-self : goal.invariant_of-self
 invariant_of-self c =
     let s = c.args.self.now in
-    let f = free_parts s (key_of c.args.row) c.in-Place.ensures.stands in
+    let k = key_of c.args.row in
+    let f = free_parts s k (subst (λ w. (standing w).given (stand s k) ≡ true) c.in_ok-admit.ensures c.ask.ensures.stands) in
     record {
       reserved = omega (arith, s.reserved, c.push_reserved.ensures.capacity);
       few = omega (arith, c.push_reserved.ensures.len, f.2);
       apart = rw c.push_reserved.ensures.items (apart-push (slots_of s) (record { row = c.args.row; state = None }) s.apart f.1);
     }
 
-pub returns-in-Place : goal.returns-in-Place
-returns-in-Place c =
-    pledged c.args.self.now _ (record { row = c.args.row; state = None }) c.in-Place.ensures.stands c.push_reserved.ensures.items c.push_reserved.ensures.len
+pub returns : goal.returns
+returns c =
+    let s = c.args.self.now in
+    let k = key_of c.args.row in
+    let free = subst (λ w. (standing w).given (stand s k) ≡ true) c.in_ok-admit.ensures c.ask.ensures.stands in
+    pledged s _ (record { row = c.args.row; state = None }) free c.push_reserved.ensures.items c.push_reserved.ensures.len
