@@ -1,5 +1,5 @@
 -- What an edit's line says.
-use Rattle.std.specs.Prelude.{ℕ, Bool, cond, not, ◌&&◌, List, length, is_some, Some, None, Ok, Err, codes, Option, Result, ◌==◌, nat_le}
+use Rattle.std.specs.Prelude.{ℕ, Bool, cond, not, ◌&&◌, List, ◌++◌, length, is_some, Some, None, Ok, Err, codes, Option, Result, ◌==◌, nat_le}
 use Rattle.std.specs.List.{list_all}
 use Rattle.std.specs.Option.{ok_or}
 use Rattle.std.specs.Int.{is_in_range}
@@ -37,6 +37,13 @@ field_key Link = codes "link"
 field_key Tag = codes "tag"
 field_key Was = codes "was"
 field_key Now = codes "now"
+
+-- what a user is told of a line that is no edit
+abbrev pub text_of : Unreadable → List ℕ
+text_of UnknownVerb = codes "the verb is not edit"
+text_of StrayWord = codes "a word is unknown or stands twice"
+text_of (Missing field) = field_key field ++ codes " is missing"
+text_of (BadValue field) = field_key field ++ codes " cannot hold that value"
 
 -- a field that has to be there, and has to be readable
 abbrev pub wanted : {X : Type 0} → Field → (List ℕ → Option X) → Option (List ℕ) → Result X Unreadable

@@ -1,9 +1,9 @@
 //! Why a line is no edit.
 ghost use Rattle.std.specs.Prelude.{◌≡◌, Some};
-ghost use Rattle.edit_lines.specs.Reading.{field_key};
+ghost use Rattle.edit_lines.specs.Reading.{field_key, text_of};
 
+use std::error::Error;
 use std::fmt;
-use thiserror::Error;
 
 /// A field of an edit.
 #[derive(Clone, Copy, PartialEq, Eq, Debug)]
@@ -41,18 +41,29 @@ impl fmt::Display for Field {
 }
 
 /// Why a line cannot be read.
-#[derive(Clone, Copy, PartialEq, Eq, Debug, Error)]
+#[derive(Clone, Copy, PartialEq, Eq, Debug)]
 pub enum Unreadable {
     /// It does not begin with `edit`.
-    #[error("the verb is not edit")]
     UnknownVerb,
     /// It has a word that an edit does not have, or has twice.
-    #[error("a word is unknown or stands twice")]
     StrayWord,
     /// It lacks the field.
-    #[error("{0} is missing")]
     Missing(Field),
     /// The field cannot hold what the line gives it.
-    #[error("{0} cannot hold that value")]
     BadValue(Field),
 }
+
+impl fmt::Display for Unreadable {
+    ghost output = { λ why. Some (text_of why) };
+
+    fn fmt<W: fmt::Write>(&self, f: &mut fmt::Formatter<W>) -> fmt::Result {
+        match self {
+            Unreadable::UnknownVerb => f.write_str("the verb is not edit"),
+            Unreadable::StrayWord => f.write_str("a word is unknown or stands twice"),
+            Unreadable::Missing(field) => write!(f, "{field} is missing"),
+            Unreadable::BadValue(field) => write!(f, "{field} cannot hold that value"),
+        }
+    }
+}
+
+impl Error for Unreadable {}
