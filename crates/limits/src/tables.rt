@@ -1,11 +1,22 @@
 //! Examples at the limits.
 use crate::made::{link, row};
 use definitions::numbers::DeliveryState;
-use rows::answers::KeeperError;
+use rows::answers::{KeeperError, Standing};
 use rows::keeper::Keeper;
 use std::alloc::Global;
 use std::test::Fail;
 use table_keeper::table::TableKeeper;
+
+// How the row stood, and its link's number, where a pledge was refused.
+fn refusal(answer: Result<(), KeeperError>) -> Option<(Standing, u8)> {
+    let Err(error) = answer else {
+        return None;
+    };
+    match error {
+        KeeperError::RowOpen(link) => Some((Standing::Pending, link.get())),
+        KeeperError::NoPlace(link) => Some((Standing::Neither, link.get())),
+    }
+}
 
 fn many(count: u16, heap: Global) -> Result<TableKeeper, Fail> {
     let mut table = TableKeeper::new(heap)?;
@@ -21,10 +32,11 @@ fn has_256_places(rt: HostRuntime) -> Result<(), Fail> {
     let mut table = many(255, rt.alloc())?;
     let last = row(63, &255u16.to_be_bytes())?;
     let beyond = row(63, &256u16.to_be_bytes())?;
-    let full = Err(KeeperError::NoPlace(link(63)?));
-    assert_eq!(rt; [table.pledge(last), table.pledge(beyond)], [Ok(()), full]);
+    let told = [refusal(table.pledge(last)), refusal(table.pledge(beyond))];
+    assert_eq!(rt; told, [None, Some((Standing::Neither, 63))]);
     assert!(rt; table.settle(last));
-    assert_eq!(rt; [table.pledge(beyond), table.pledge(last)], [Ok(()), full]);
+    let told = [refusal(table.pledge(beyond)), refusal(table.pledge(last))];
+    assert_eq!(rt; told, [None, Some((Standing::Neither, 63))]);
     assert_eq!(rt; table.pending_count(), 256);
     Ok(())
 }
@@ -37,13 +49,12 @@ fn tells_rows_apart(rt: HostRuntime) -> Result<(), Fail> {
     let long = row(0, &[1; 32])?;
     let other = row(1, &[1; 32])?;
     let told = [
-        table.pledge(short),
-        table.pledge(long),
-        table.pledge(other),
-        table.pledge(long),
+        refusal(table.pledge(short)),
+        refusal(table.pledge(long)),
+        refusal(table.pledge(other)),
+        refusal(table.pledge(long)),
     ];
-    let open = Err(KeeperError::RowOpen(link(0)?));
-    assert_eq!(rt; told, [Ok(()), Ok(()), Ok(()), open]);
+    assert_eq!(rt; told, [None, None, None, Some((Standing::Pending, 0))]);
     assert!(rt; table.note(long, DeliveryState::Accepted));
     assert_eq!(rt; table.state(long), Some(DeliveryState::Accepted));
     table.close(link(0)?);
