@@ -1,4 +1,4 @@
-pub mod Finds
+pub mod Changes
 pub mod Naming
 pub mod Loops
 pub mod Moves

@@ -9,8 +9,8 @@ module _ {X : Type 0} (f : X → X) (xs ys : List X) where
   Over i = ys ≡ map f (take i xs) ++ drop i xs
 
   -- one more is
-  pub over_more : (i : ℕ) (d : X) → i < length xs → i < length ys → Over i → set ys i (f (get_or ys i d)) ≡ map f (take (i + 1) xs) ++ drop (i + 1) xs
-  over_more i d h l e = map_over_more f xs ys i (get_or ys i d) h e (get_or_default ys i d (get_or ys i d) l)
+  pub over_more : (i : ℕ) (d v : X) → v ≡ f (get_or ys i d) → i < length xs → i < length ys → Over i → set ys i v ≡ map f (take (i + 1) xs) ++ drop (i + 1) xs
+  over_more i d v w h l e = ap (set ys i) w ∙ map_over_more f xs ys i (get_or ys i d) h e (get_or_default ys i d (get_or ys i d) l)
 
   -- all are
   pub over_all : (i : ℕ) → length xs ≤ i → Over i → ys ≡ map f xs

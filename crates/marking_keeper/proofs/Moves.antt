@@ -1,8 +1,8 @@
 -- What a change of the records does to how rows stand.
-use Rattle.std.proofs.Common.{◌≡◌, ◌≢◌, ℕ, ◌+◌, ◌<◌, Bool, true, false, cond, eqb, List, ◌++◌, map, length, get_or, take, drop, set, Some, None, Option, is_some, sym, refl, ap, ◌∙◌, arith}
+use Rattle.std.proofs.Common.{◌≡◌, ◌≢◌, ℕ, Bool, true, false, cond, eqb, List, map, get_or, Some, None, Option, is_some, sym, refl, ap, ◌∙◌, arith}
 use Rattle.std.specs.List.{find, position}
 use Rattle.std.specs.Option.{option_map}
-use Rattle.std.proofs.lemmas.Bool.{eq-eqb, ne_eqb}
+use Rattle.std.proofs.lemmas.Bool.Decides.{nat_tests}
 use Rattle.std.proofs.lemmas.Option.{get_or_from_slice_get}
 use Rattle.definitions.specs.declared.numbers.DeliveryState.{DeliveryState}
 use Rattle.definitions.specs.declared.numbers.DeliveryState.TheVariants.{None as NoState}
@@ -10,13 +10,13 @@ use Rattle.rows.specs.Keys.{Key}
 use Rattle.rows.specs.Meaning.{free, full, standing, state_of, is_pending, Put, Settle, Note}
 use Rattle.rows.specs.declared.answers.Standing.{Standing}
 use Rattle.rows.specs.declared.answers.Standing.TheVariants.{Pending, Place, Neither}
+use Rattle.rows.proofs.Finds.{find_nowhere, find_first, find_passes}
 use Rattle.marking_keeper.specs.declared.record.Record.{Record}
 use Rattle.marking_keeper.specs.declared.marking.MarkingKeeper.{MarkingKeeper}
 use Rattle.marking_keeper.specs.Records.{naming, marked, unmarked, remarked, closed_on}
 use Rattle.marking_keeper.specs.Marking.{held, by_mark, by_first, stand, Rule, Pledges, Settles}
 use Rattle.marking_keeper.specs.Restores.{same_from}
-use Rattle.marking_keeper.proofs.Finds.{find_nowhere, find_first, find_passes, find-map, find-changed, find_other}
-use Rattle.marking_keeper.proofs.Loops.{Over, over_more}
+use Rattle.marking_keeper.proofs.Changes.{find-map, find-changed, find_other}
 use Rattle.marking_keeper.proofs.Naming.{naming-link, naming_one, naming-closed}
 
 -- Where all marks are cleared nothing is pending.
@@ -64,6 +64,13 @@ pub noted : (s t : MarkingKeeper) (k : Key) (v : DeliveryState) (r : Bool) → r
 noted s t k v true p e = (sym p, put s t k (Some v) e (grind arith))
 noted s t k v false p e = (sym p, same_from s t e)
 
+-- A record of the link loses its mark, and another stays.
+pub closes : (l : ℕ) (x : Record) → x.link ≡ l → unmarked x ≡ closed_on l x
+closes l x e = grind (arith, nat_tests)
+
+pub stays : (l : ℕ) (x : Record) → (x.link ≢ l) → x ≡ closed_on l x
+stays l x n = grind (arith, nat_tests)
+
 closed-found : (j : Key) (l : ℕ) (o : Option Record) → ((x : Record) → o ≡ Some x → naming j x ≡ true) → state_of (by_first (option_map (closed_on l) o)) ≡ cond (eqb j.link l) None (state_of (by_first o))
 closed-found j l None h = grind arith
 closed-found j l (Some x) h = grind (arith, naming-link j x (h x refl))
@@ -74,10 +81,3 @@ closed l xs ys e j =
     ap (λ zs. state_of (by_first (find (naming j) zs))) e
     ∙ ap (λ o. state_of (by_first o)) (find-map (naming j) (closed_on l) (naming-closed j l) xs)
     ∙ closed-found j l (find (naming j) xs) (find_passes (naming j) xs)
-
--- a loop that clears the marks of a link's records goes on past a record of the link, and past another
-pub closed_yes : (l : ℕ) (xs ys : List Record) (i : ℕ) (d : Record) → i < length xs → i < length ys → (get_or ys i d).link ≡ l → Over (closed_on l) xs ys i → set ys i (unmarked (get_or ys i d)) ≡ map (closed_on l) (take (i + 1) xs) ++ drop (i + 1) xs
-closed_yes l xs ys i d h n e o = let m = over_more (closed_on l) xs ys i d h n o in grind (arith, m, eq-eqb (get_or ys i d).link l e)
-
-pub closed_no : (l : ℕ) (xs ys : List Record) (i : ℕ) (d : Record) → i < length xs → i < length ys → ((get_or ys i d).link ≢ l) → Over (closed_on l) xs ys i → set ys i (get_or ys i d) ≡ map (closed_on l) (take (i + 1) xs) ++ drop (i + 1) xs
-closed_no l xs ys i d h n a o = let m = over_more (closed_on l) xs ys i d h n o in grind (arith, m, ne_eqb (get_or ys i d).link l a)

@@ -1,15 +1,16 @@
 -- How many rows are pending, and what that says of places.
-use Rattle.std.specs.Prelude.{◌≡◌, ◌≢◌, ℕ, cond, List, AllPairs, length, nat_lt}
+use Rattle.std.specs.Prelude.{◌≡◌, ℕ, cond, List, length, nat_lt}
 use Rattle.std.specs.Set.{is_member}
 use Rattle.rows.specs.declared.answers.Standing.{Standing}
 use Rattle.rows.specs.declared.answers.Standing.TheVariants.{Pending, Place, Neither}
 use Rattle.rows.specs.Keys.{Key, same_key}
 use Rattle.rows.specs.Meaning.{Stand, is_pending}
+use Rattle.table_keeper.specs.Slots.{Distinct}
 
 -- n rows are pending: there is a list of keys, none twice, that has exactly the pending rows, and its length is n.
 pub record Counts (stands : Key → Stand) (n : ℕ) : Type 0 where
   pub keys : List Key
-  pub apart : AllPairs (λ j k. j ≢ k) keys
+  pub apart : Distinct keys
   pub exact : (k : Key) → is_member same_key keys k ≡ is_pending (stands k)
   pub long : length keys ≡ n
 

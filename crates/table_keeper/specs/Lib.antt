@@ -1,4 +1,4 @@
-pub mod Counts
 pub mod Slots
+pub mod Counts
 pub mod Table
 pub mod Restores

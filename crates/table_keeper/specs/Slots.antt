@@ -1,5 +1,5 @@
 -- The slots of a table: pending rows, each known by its key.
-use Rattle.std.specs.Prelude.{ℕ, Bool, not, List, map, filter, find, Option, ◌==◌}
+use Rattle.std.specs.Prelude.{ℕ, Bool, not, List, AllPairs, map, filter, find, Option, ◌==◌, ◌≢◌}
 use Rattle.std.specs.Option.{option_map}
 use Rattle.definitions.specs.declared.numbers.DeliveryState.{DeliveryState}
 use Rattle.rows.specs.Keys.{Key, key_of, same_key}
@@ -10,6 +10,10 @@ key_in x = key_of x.row
 
 abbrev pub keys_in : List PendingRow → List Key
 keys_in xs = map key_in xs
+
+-- No key is in the list twice.
+abbrev pub Distinct : List Key → Type 0
+Distinct ks = AllPairs (λ j k. j ≢ k) ks
 
 -- whether the slot is of the row k
 abbrev pub is_of : Key → PendingRow → Bool

@@ -1,6 +1,6 @@
 //! Two rows are one when their links and the bytes of their tags are.
 //!
-//! This is no derive, since a derive's equation compares the lengths of tags too, and a row's key has none.
+//! This is no derive: its equation would compare the lengths of the tags too, and a key has only their bytes.
 ghost use Rattle.std.specs.Prelude.{◌≡◌};
 ghost use Rattle.rows.specs.Keys.{key_of, same_key};
 ghost use Rattle.std.specs.Cmp.Rules.{comparing};

@@ -10,6 +10,7 @@ impl Row {
     pub fn new(link: LinkNumber, tag: DeliveryTag) -> Option<Row>
         ensures { MatchOption result (32 < tag.len) (λ row. (row.link ≡ link) × (row.tag ≡ tag)) }
     {
+        // No `then`: its closure would need a clause of its own to know that the tag fits.
         if !tag.fits() {
             return None;
         }

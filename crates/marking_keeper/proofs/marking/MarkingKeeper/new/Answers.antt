@@ -5,7 +5,7 @@ use Rattle.marking_keeper.proofs.Moves.{cleared}
 use Rattle.marking_keeper.proofs.marking.MarkingKeeper.new.Goals as goal
 
 pub loop-record-preserved : goal.loop-record-preserved
-loop-record-preserved c = over_more unmarked c.args.records.now c.loop-record.records c.loop-record.record-index _ (omega arith) (omega arith) c.loop-record.invariant
+loop-record-preserved c = over_more unmarked c.args.records.now c.loop-record.records c.loop-record.record-index _ _ refl (omega arith) (omega arith) c.loop-record.invariant
 
 pub returns : goal.returns
 returns c =

@@ -2,7 +2,7 @@ use Rattle.std.proofs.Common.{sym, arith}
 use Rattle.rows.specs.Keys.{key_of}
 use Rattle.marking_keeper.specs.Records.{naming, marked}
 use Rattle.marking_keeper.specs.Marking.{held}
-use Rattle.marking_keeper.proofs.Finds.{changed_first}
+use Rattle.marking_keeper.proofs.Changes.{changed_first}
 use Rattle.marking_keeper.proofs.Moves.{stand_found, stand_nowhere}
 use Rattle.marking_keeper.proofs.marking.MarkingKeeper.remark.Goals as goal
 

@@ -1,8 +1,8 @@
 use Rattle.std.proofs.Common.{◌≡◌, map, refl, ap, ◌∙◌, arith}
 use Rattle.definitions.specs.LinkNumbers.{number_of}
 use Rattle.marking_keeper.specs.Records.{closed_on}
-use Rattle.marking_keeper.proofs.Loops.{over_all}
-use Rattle.marking_keeper.proofs.Moves.{closed, closed_yes, closed_no}
+use Rattle.marking_keeper.proofs.Loops.{over_more, over_all}
+use Rattle.marking_keeper.proofs.Moves.{closed, closes, stays}
 use Rattle.marking_keeper.proofs.marking.keeps.MarkingKeeperKeeper.close.Goals as goal
 use Rattle.marking_keeper.proofs.marking.keeps.MarkingKeeperKeeper.close.Goals.{then-record-number, else-record-number}
 
@@ -13,8 +13,8 @@ loop-record-preserved c =
     let ys = c.loop-record.record-items in
     let i = c.loop-record.record-index in
     elim c.if-record-number.branch [
-      | then-record-number w ↦ w.record-items-is ∙ closed_yes n xs ys i _ (omega arith) (omega arith) w.if-record-number.true c.loop-record.invariant
-      | else-record-number w ↦ w.record-items-is ∙ closed_no n xs ys i _ (omega arith) (omega arith) w.if-record-number.false c.loop-record.invariant
+      | then-record-number w ↦ w.record-items-is ∙ over_more (closed_on n) xs ys i _ _ (closes n _ w.if-record-number.true) (omega arith) (omega arith) c.loop-record.invariant
+      | else-record-number w ↦ w.record-items-is ∙ over_more (closed_on n) xs ys i _ _ (stays n _ w.if-record-number.false) (omega arith) (omega arith) c.loop-record.invariant
     ]
 
 pub returns : goal.returns

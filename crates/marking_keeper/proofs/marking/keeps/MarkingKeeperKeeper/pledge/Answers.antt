@@ -3,7 +3,7 @@ use Rattle.definitions.specs.declared.numbers.DeliveryState.TheVariants.{None as
 use Rattle.rows.specs.Keys.{key_of}
 use Rattle.marking_keeper.specs.Records.{naming, marked}
 use Rattle.marking_keeper.specs.Marking.{held}
-use Rattle.marking_keeper.proofs.Finds.{changed_first}
+use Rattle.marking_keeper.proofs.Changes.{changed_first}
 use Rattle.marking_keeper.proofs.Moves.{stand_found, stand_nowhere, pledged}
 use Rattle.marking_keeper.proofs.marking.keeps.MarkingKeeperKeeper.pledge.Goals as goal
 
