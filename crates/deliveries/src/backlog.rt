@@ -19,5 +19,6 @@ pub struct Waiting {
 #[derive(Drop)]
 pub struct Backlog {
     pub waiting: Vec<Waiting>,
+    // A number of its own beside the list: else each transfer that is submitted would count all that wait.
     pub reserved: usize,
 }

@@ -1,6 +1,7 @@
 -- What a session knows of its links, and what the calls on them do.
 use Rattle.std.specs.Prelude.{◌≡◌, ℕ, Bool, cond, not, ◌||◌, List, [], ◌∷◌, ◌++◌, map, replicate, Some, None, Ok, Err, Option, Result, nat_le, nat_lt, slice_set, position}
 use Rattle.std.specs.List.{list_any}
+use Rattle.std.specs.Option.{option_and_then}
 use Rattle.names.specs.declared.octets.Octets.{Octets}
 use Rattle.definitions.specs.declared.link_number.LinkNumber.{LinkNumber}
 use Rattle.definitions.specs.declared.numbers.InputHandle.{InputHandle}
@@ -74,13 +75,9 @@ Deallocates t h used u = (used ≡ is_used t h) × (u ≡ cond used (freed t h) 
 
 -- The peer's attach
 
-abbrev pub awaiting_as : List LinkState → Option ℕ → Option ℕ
-awaiting_as links None = None
-awaiting_as links (Some h) = position (awaits_under h) links
-
 -- the number of the link that has the name and waits for its attach
 abbrev pub awaiting_by : LinkTables → Octets 64 → Option ℕ
-awaiting_by t name = awaiting_as t.links (position (bears_name name) t.entries)
+awaiting_by t name = option_and_then (λ h. position (awaits_under h) t.links) (position (bears_name name) t.entries)
 
 -- Why an attach of that name and input handle is refused, if it is: no handle is in use by the name; no link waits for its attach with that handle, or the input handle is taken.
 abbrev pub taken_bar : LinkTables → InputHandle → Option ℕ → Option SessionInnerError
