@@ -3,7 +3,7 @@ ghost use Rattle.std.specs.Prelude.{◌≡◌, ◌≤◌, IfSome, IfOk};
 ghost use Rattle.std.specs.Option.{option_map, ok_or};
 ghost use Rattle.digits.specs.Numbers.{hexadecimal};
 ghost use Rattle.definitions.specs.LinkNumbers.{number_of};
-ghost use Rattle.lines.specs.Words.{later_words, value_in};
+ghost use Rattle.lines.specs.Words.{words_after, value_in};
 ghost use Rattle.names.specs.Octets.{bytes_in};
 ghost use Rattle.edit_lines.specs.declared.unreadable.Unreadable.TheVariants.{Missing};
 ghost use Rattle.edit_lines.specs.Reading.{mapped_ok, field_key, link_in, tag_in, text_in, all_printable, short};
@@ -16,7 +16,7 @@ use names::octets::DeliveryTag;
 
 /// The text of a field.
 fn text_of<'a>(line: &Line<'a>, field: Field) -> Result<&'a [u8], Unreadable>
-    ensures { mapped_ok (λ x. x.now) result ≡ ok_or (value_in (field_key field) (later_words line.now.text.now)) (Missing field) }
+    ensures { mapped_ok (λ x. x.now) result ≡ ok_or (value_in (field_key field) (words_after line.now)) (Missing field) }
 {
     let key = field.key().as_bytes();
     line.value(key).ok_or(Unreadable::Missing(field))
@@ -24,7 +24,7 @@ fn text_of<'a>(line: &Line<'a>, field: Field) -> Result<&'a [u8], Unreadable>
 
 /// The link's number: decimal, at most 63.
 pub(crate) fn link_of(line: &Line<'_>) -> Result<LinkNumber, Unreadable>
-    ensures { mapped_ok number_of result ≡ link_in (later_words line.now.text.now) }
+    ensures { mapped_ok number_of result ≡ link_in (words_after line.now) }
 {
     let text = text_of(line, Field::Link)?;
     decimal(text, 63)
@@ -34,7 +34,7 @@ pub(crate) fn link_of(line: &Line<'_>) -> Result<LinkNumber, Unreadable>
 
 /// The delivery tag: hexadecimal, at most 32 bytes.
 pub(crate) fn tag_of(line: &Line<'_>) -> Result<DeliveryTag, Unreadable>
-    ensures tag { mapped_ok bytes_in result ≡ tag_in (later_words line.now.text.now) }
+    ensures tag { mapped_ok bytes_in result ≡ tag_in (words_after line.now) }
     ensures fits { IfOk result (λ tag. tag.len ≤ 32) }
 {
     let text = text_of(line, Field::Tag)?;
@@ -54,7 +54,7 @@ fn tag_from(text: &[u8]) -> Option<DeliveryTag>
 
 /// A value: printable ASCII without spaces and quotes; it may be empty.
 pub(crate) fn value_of<'a>(line: &Line<'a>, field: Field) -> Result<&'a [u8], Unreadable>
-    ensures { mapped_ok (λ x. x.now) result ≡ text_in field (later_words line.now.text.now) }
+    ensures { mapped_ok (λ x. x.now) result ≡ text_in field (words_after line.now) }
 {
     let text = text_of(line, field)?;
     all_printable(text)

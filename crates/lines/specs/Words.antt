@@ -3,6 +3,7 @@ use Rattle.std.specs.Prelude.{ℕ, ◌+◌, Bool, cond, not, ◌&&◌, List, [],
 use Rattle.std.specs.List.{before_first, list_any, position_or_len}
 use Rattle.std.specs.Option.{option_or}
 use Rattle.std.specs.Str.{bytes_eq}
+use Rattle.lines.specs.declared.Line.{Line}
 use Rattle.lines.specs.declared.words.Words.{Words}
 
 -- the first word of a text: what stands before its first space
@@ -17,6 +18,10 @@ from_space text = drop (position_or_len (λ c. c == 32) text) text
 abbrev pub later_words : List ℕ → List (List ℕ)
 later_words [] = []
 later_words (c ∷ cs) = cond (c == 32) (first_word cs ∷ later_words cs) (later_words cs)
+
+-- the words of a line after its verb
+abbrev pub words_after : Line → List (List ℕ)
+words_after line = later_words line.text.now
 
 -- the words that are still to come
 abbrev pub words_left : Words → List (List ℕ)

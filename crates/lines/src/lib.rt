@@ -14,7 +14,7 @@
 
 ghost use Rattle.std.specs.Prelude.{◌≡◌};
 ghost use Rattle.std.specs.Option.{option_map};
-ghost use Rattle.lines.specs.Words.{first_word, later_words, value_in, among, stray};
+ghost use Rattle.lines.specs.Words.{first_word, later_words, words_after, value_in, among, stray};
 
 mod words;
 
@@ -43,14 +43,14 @@ impl<'a> Line<'a> {
 
     /// The value that the first word with that key gives it.
     pub fn value(&self, key: &[u8]) -> Option<&'a [u8]>
-        ensures { option_map (λ x. x.now) result ≡ value_in key.now (later_words self.now.text.now) }
+        ensures { option_map (λ x. x.now) result ≡ value_in key.now (words_after self.now) }
     {
         Words::new(self.text).find_map(|word| value_of(key, word))
     }
 
     /// Whether `word` stands after the verb.
     pub fn flag(&self, word: &[u8]) -> bool
-        ensures { result ≡ among word.now (later_words self.now.text.now) }
+        ensures { result ≡ among word.now (words_after self.now) }
     {
         Words::new(self.text).any(|next| word == next)
     }
@@ -58,7 +58,7 @@ impl<'a> Line<'a> {
     /// The first word after the verb that `form` lacks, or that stands again later. A form is written as a
     /// line itself: a verb, its keys each with `=`, and its flags.
     pub fn stray(&self, form: &[u8]) -> Option<&'a [u8]>
-        ensures { option_map (λ x. x.now) result ≡ stray (later_words form.now) (later_words self.now.text.now) }
+        ensures { option_map (λ x. x.now) result ≡ stray (later_words form.now) (words_after self.now) }
     {
         // A `while let`, since each word is held against those after it.
         let mut words = Words::new(self.text);
