@@ -5,7 +5,7 @@
 //! is gone the application reads in them what is still unsettled.
 //!
 //! - [`record`]: a record, and which row it names.
-//! - [`marking`]: the keeper; `marking::methods` opens it and gives it up, `marking::keeps` makes it a keeper.
+//! - [`marking`]: the keeper, how it is opened and given up; `marking::keeps` makes it a keeper.
 //!
 //! What the contracts say is in `specs/`: `Records` (which row a record names, what a mark changes) and `Marking`
 //! (how a row stands, the rule of places, and that the records are the same loan).

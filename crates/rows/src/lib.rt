@@ -5,7 +5,7 @@
 //! the one trait of this crate, and the session is proved over every one of them.
 //!
 //! - [`row`]: a row, made of a link number and a tag that fits.
-//! - [`answers`]: what a keeper answers; `answers::admission` leads from a standing to its refusal.
+//! - [`answers`]: what a keeper answers, and from a standing to its refusal.
 //! - [`keeper`]: the trait, with what every keeper must show, and no more.
 //! - [`pending`]: what keepers hold of a row that is pending.
 //! - [`reply`]: the answer to a link's flow that the keepers of this repository give.
