@@ -12,6 +12,8 @@ impl LinkNumber {
     ghost use Rattle.std.specs.Prelude.{◌≡◌, ◌<◌, MatchOption};
     ghost use Rattle.definitions.specs.LinkNumbers.{number_of};
 
+    // `new` and `get`, as the standard library has them for its numbers that are not zero.
+
     /// The link number `n`, or none where it is above 63.
     pub fn new(n: u32) -> Option<LinkNumber>
         ensures { MatchOption result (63 < n) (λ link. number_of link ≡ n) }

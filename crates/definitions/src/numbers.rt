@@ -3,6 +3,9 @@
 ghost use Rattle.std.specs.Prelude.{◌≡◌};
 ghost use Rattle.definitions.specs.Numbers.{state_number, terminal};
 
+// Handles of three kinds and channels of two are types of their own, though each is a number: one must not be taken for
+// another.
+
 /// A handle as a frame carries it (Part 2, 2.8.4).
 #[derive(Clone, Copy, PartialEq, Eq, Debug)]
 pub struct Handle(pub u32);

@@ -9,6 +9,7 @@ pub struct Waiting {
     pub performative: Transfer,
     pub payload: Payload,
     /// Whether it is the first transfer of its delivery.
+    // Beside `mark`, since a first that is settled has none.
     pub first: bool,
     /// What is to be booked when it goes out: nothing of a settled transfer or a continuation, nor after the peer
     /// detached the link.

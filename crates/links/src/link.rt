@@ -6,6 +6,7 @@ use crate::relay::LinkRelay;
 use definitions::numbers::{InputHandle, OutputHandle};
 
 /// How the link of a link number stands.
+// No `Option` of two states: that there is none is one of the three that the state of a number goes through.
 #[derive(Clone, Copy)]
 pub enum LinkState {
     /// There is none.

@@ -23,6 +23,7 @@ pub mod laws;
 pub struct Full;
 
 /// A queue over lent slots: the slots in use are `used` in a row from `head` on, and after the last slot comes the first.
+// Lent slots and no `VecDeque`: nothing is allocated, here or at a put.
 #[derive(Drop)]
 pub struct Queue<'a, T> {
     slots: &'a mut [T],

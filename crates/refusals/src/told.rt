@@ -12,6 +12,7 @@ use rows::answers::KeeperError;
 /// A refusal by its number, the layer that refuses, and its subject.
 #[derive(Clone, Copy, PartialEq, Eq, Debug)]
 pub struct Told {
+    // A number, since that is what a user is told; the kinds themselves are the errors.
     pub number: u8,
     pub layer: Layer,
     pub subject: u64,

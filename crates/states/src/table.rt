@@ -70,6 +70,8 @@ impl SessionState {
         }
     }
 
+    // State and event are matched together, and the table is not asked again; both are held to one definition.
+
     /// Changes to the state that the event leads to, or stays where the table names none. The condition is
     /// that of our end.
     pub fn advance(&mut self, event: SessionEvent, condition: ErrorCondition)
