@@ -91,6 +91,8 @@ pub enum DeliveryState {
 }
 
 impl DeliveryState {
+    // A cast, as states of sessions and layers have one: a trait for all three would only name it.
+
     /// The state's number.
     pub fn number(self) -> u8
         ensures { result ≡ state_number self }

@@ -70,6 +70,7 @@ fn transfer(row: Row, payload: Payload, delivery_id: u32) -> SessionFrame
     ensures { result ≡ transfer_of row payload delivery_id }
 {
     let performative = Transfer {
+        // No `From`: that a handle equals a link's number is a rule of the outbox alone.
         handle: Handle(u32::from(row.link().get())),
         delivery_id: Some(delivery_id),
         delivery_tag: Some(row.tag()),

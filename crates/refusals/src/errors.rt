@@ -74,6 +74,8 @@ pub enum Error {
     Session(SessionInnerError),
 }
 
+// Each `From` is written out, since a derived one would have no contract, and what `?` makes is to be known.
+
 impl From<AllocLinkError> for SessionInnerError {
     ghost from_gives = { λ e r. r ≡ Alloc e };
 

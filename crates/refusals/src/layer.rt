@@ -11,6 +11,8 @@ pub enum Layer {
 }
 
 impl Layer {
+    // A cast, as the states of sessions and deliveries have one: a trait for all three would only name it.
+
     /// The layer's number.
     pub fn number(self) -> u8
         ensures { result ≡ layer_number self }

@@ -5,6 +5,8 @@ ghost use Rattle.rows.specs.Reply.{echoed};
 use definitions::numbers::OutputHandle;
 use frames::link::LinkFlow;
 
+// Two keepers say of their `reply` what is said here: a keeper's caller sees its clauses alone.
+
 /// A flow that asks for an echo gets itself back, under the output handle and asking for none; another
 /// gets no answer.
 pub fn echo(flow: LinkFlow, handle: OutputHandle) -> Option<LinkFlow>

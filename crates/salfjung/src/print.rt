@@ -70,6 +70,7 @@ impl fmt::Display for TransferLine<'_> {
 }
 
 /// How a flag is printed.
+// A function and no type with a `Display`, since two words need none.
 fn yes_no(flag: bool) -> &'static str {
     if flag { "yes" } else { "no" }
 }

@@ -16,6 +16,8 @@ pub enum SessionState {
 }
 
 impl SessionState {
+    // A cast, as delivery states and layers have one: a trait for all three would only name it.
+
     /// The state's number.
     pub fn number(self) -> u8
         ensures { result ≡ state_number self }

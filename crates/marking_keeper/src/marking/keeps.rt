@@ -1,7 +1,8 @@
 //! The marking keeper is a keeper.
 //!
 //! Beside what the trait asks, each clause `marks` says what becomes of the records, exactly, and each
-//! clause `lent` that they are the ones that were lent, so that their owner knows them afterwards.
+//! clause `lent` that they are the ones that were lent, so that their owner knows them afterwards. No field of the
+//! keeper can say that, since it holds of the keeper before a call and after it.
 ghost use Rattle.std.specs.Prelude.{◌≡◌, true, map, is_ok, if◌then◌else◌, Some, None};
 ghost use Rattle.definitions.specs.declared.numbers.DeliveryState.TheVariants.{None as NoState};
 ghost use Rattle.definitions.specs.LinkNumbers.{number_of};
