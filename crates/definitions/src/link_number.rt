@@ -12,9 +12,9 @@ impl LinkNumber {
     ghost use Rattle.std.specs.Prelude.{◌≡◌, ◌<◌, MatchOption};
     ghost use Rattle.definitions.specs.LinkNumbers.{number_of};
 
-    // `new` and `get`, as the standard library has them for its numbers that are not zero.
-
     /// The link number `n`, or none where it is above 63.
+    // `new` and `get`, as the standard library has them for its numbers that are not zero. No `then`: its closure would
+    // need a clause of its own to know that the number fits.
     pub fn new(n: u32) -> Option<LinkNumber>
         ensures { MatchOption result (63 < n) (λ link. number_of link ≡ n) }
     {

@@ -91,9 +91,8 @@ pub enum DeliveryState {
 }
 
 impl DeliveryState {
-    // A cast, as states of sessions and layers have one: a trait for all three would only name it.
-
     /// The state's number.
+    // A cast, as states of sessions and layers have one: a trait for all three would only name it.
     pub fn number(self) -> u8
         ensures { result ≡ state_number self }
     {

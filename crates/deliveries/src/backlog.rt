@@ -8,12 +8,17 @@ use frames::session::Payload;
 pub struct Waiting {
     pub performative: Transfer,
     pub payload: Payload,
-    /// Whether it is the first transfer of its delivery.
-    // Beside `mark`, since a first that is settled has none.
-    pub first: bool,
-    /// What is to be booked when it goes out: nothing of a settled transfer or a continuation, nor after the peer
-    /// detached the link.
-    pub mark: Option<BookEntry>,
+    pub part: Part,
+}
+
+/// Which part of its delivery a transfer carries.
+#[derive(Clone, Copy)]
+pub enum Part {
+    /// The first, with what is to be booked when it goes out: nothing of a settled one, nor after the peer detached the
+    /// link.
+    First(Option<BookEntry>),
+    /// A later one, of which nothing is booked.
+    Continuation,
 }
 
 /// The transfers that wait, the oldest first, and how many places of the book are kept for them.

@@ -23,9 +23,8 @@ pub enum SessionStopReason {
 }
 
 impl SessionStopReason {
-    // Two numbers, since that is what a user is told of a stop, and 0 and 0 before it.
-
     /// The reason's number, and the condition.
+    // Two numbers, since that is what a user is told of a stop, and 0 and 0 before it.
     pub fn numbers(self) -> (u8, ErrorCondition)
         ensures { (result.0 ≡ reason_of self) × (result.1 ≡ condition_of self) }
     {

@@ -9,7 +9,7 @@
 //!
 //! Read the definitions in this order: `specs/Endpoint.antt`, what a session holds; `specs/Calls.antt`, the calls;
 //! `specs/Rulings.antt`, which of them the state lets run; `specs/Objections.antt`, what else stands against one;
-//! `specs/Frames.antt`, what goes out; `specs/Steps.antt`, what a call does.
+//! `specs/Frames.antt`, what goes out; `specs/Stops.antt`, why a session stopped; `specs/Steps.antt`, what a call does.
 
 #![tactic(auto)]
 

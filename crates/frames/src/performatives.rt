@@ -35,6 +35,7 @@ pub struct Attach {
 }
 
 /// Tells the windows of a session and, where it names a handle, the state of a link.
+// The link's part is no `LinkFlow` here: the record has Part 2's fields in Part 2's order.
 #[derive(Clone, Copy)]
 pub struct Flow {
     pub next_incoming_id: Option<TransferNumber>,

@@ -2,6 +2,7 @@
 use crate::performatives::{Attach, Begin, Detach, Disposition, End, Flow, Transfer};
 
 /// The message that a transfer carries: `len` bytes of row memory from `place` on.
+// A place and no slice: frames are copied, and outlive a borrow of the memory.
 #[derive(Clone, Copy)]
 pub struct Payload {
     pub place: u32,

@@ -1,4 +1,5 @@
-//! Examples at the limits, of every crate: each is proved to be safe and to end, and then run.
+//! Examples at the limits of names, numbers, queue, keepers, lines and edits: each is proved to be safe and to end, and
+//! then run.
 //!
 //! They stand in a crate of their own, since a crate with tests is proved twice.
 //!

@@ -1,6 +1,6 @@
 //! Cuts a text at its spaces, and a word at its `=`.
 
-ghost use Rattle.std.specs.Prelude.{◌≡◌, ◌==◌, length, position};
+ghost use Rattle.std.specs.Prelude.{◌≡◌, ◌==◌, position};
 ghost use Rattle.std.specs.Iterator.{YieldsFirstRef, item_count};
 ghost use Rattle.std.specs.Option.{option_map};
 ghost use Rattle.lines.specs.Words.{first_word, from_space, later_words, words_left, value_of, label, labelled};

@@ -33,9 +33,8 @@ impl Links {
         })
     }
 
-    // Name and number go side by side down one call, from the session to `allocatable`, and so have no struct.
-
     /// Gives a new link of that name and number its output handle, or refuses and changes nothing.
+    // Name and number go side by side down one call, from the session to `allocatable`, and so have no struct.
     pub fn allocate(
         &mut self,
         name: Name,

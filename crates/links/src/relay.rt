@@ -6,7 +6,7 @@ ghost use Rattle.links.specs.Relays.{sender, output_of, mode_of};
 use definitions::numbers::{OutputHandle, ReceiverSettleMode};
 
 /// A link as the session passes frames on to it. `O` is its output handle, or `()` before it has one.
-// An enum of one variant, since links on which we receive are not here.
+// An enum, though of one variant: the other one, for links on which we receive, is not here.
 #[derive(Clone, Copy)]
 pub enum LinkRelay<O> {
     /// A link on which we send.

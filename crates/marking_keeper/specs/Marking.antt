@@ -1,5 +1,5 @@
 -- How a row stands with a marking keeper.
-use Rattle.std.specs.Prelude.{◌≡◌, ℕ, true, List, is_some, slice_get, Some, None, Option, find, position}
+use Rattle.std.specs.Prelude.{◌≡◌, ℕ, Bool, true, if◌then◌else◌, List, is_some, slice_get, Some, None, Option, find, position}
 use Rattle.definitions.specs.declared.numbers.DeliveryState.{DeliveryState}
 use Rattle.definitions.specs.declared.numbers.DeliveryState.TheVariants.{None as NoState}
 use Rattle.rows.specs.Keys.{Key}
@@ -42,6 +42,10 @@ pub record Pledges (s : MarkingKeeper) (k : Key) (t : MarkingKeeper) : Type 0 wh
 
 abbrev pub Settles : MarkingKeeper → Key → MarkingKeeper → Type 0
 Settles s k t = held t ≡ remarked k None (held s)
+
+-- The row gets the mark, or loses it, where the call did something; else nothing changes.
+abbrev pub Remarks : Key → Option DeliveryState → Bool → MarkingKeeper → MarkingKeeper → Type 0
+Remarks k mark done s t = held t ≡ (if done then remarked k mark (held s) else held s)
 
 -- The records of s and of t are one loan, so their owner knows them after t.
 abbrev pub SameLoan : MarkingKeeper → MarkingKeeper → Type 0

@@ -13,11 +13,11 @@ pub struct MarkingKeeper<'a> {
 }
 
 impl<'a> MarkingKeeper<'a> {
-    ghost use Rattle.std.specs.Prelude.{◌≡◌, false, map, position, if◌then◌else◌};
+    ghost use Rattle.std.specs.Prelude.{◌≡◌, false, map, position};
     ghost use Rattle.rows.specs.Keys.{Key, key_of};
     ghost use Rattle.rows.specs.Meaning.{is_pending, state_of};
-    ghost use Rattle.marking_keeper.specs.Records.{naming, unmarked, remarked};
-    ghost use Rattle.marking_keeper.specs.Marking.{held, stand, SameLoan};
+    ghost use Rattle.marking_keeper.specs.Records.{naming, unmarked};
+    ghost use Rattle.marking_keeper.specs.Marking.{held, stand, Remarks, SameLoan};
 
     /// A keeper over the records, with nothing pending: all marks are cleared.
     pub fn new(records: &'a mut [Record]) -> MarkingKeeper<'a>
@@ -51,6 +51,7 @@ impl<'a> MarkingKeeper<'a> {
     pub fn state(&self, row: Row) -> Option<DeliveryState>
         ensures { result ≡ state_of (stand self.now (key_of row)) }
     {
+        // By place, since the proof of a chain by `find` does not close.
         self.first(row).and_then(|i| self.records[i].mark)
     }
 
@@ -64,7 +65,7 @@ impl<'a> MarkingKeeper<'a> {
     /// Replaces the mark of a row that is pending, and tells whether it was.
     fn remark(&mut self, row: Row, mark: Option<DeliveryState>) -> bool
         ensures was { result ≡ is_pending (stand self.old (key_of row)) }
-        ensures marks { held self.new ≡ (if result then remarked (key_of row) mark (held self.old) else held self.old) }
+        ensures marks { Remarks (key_of row) mark result self.old self.new }
         ensures lent { SameLoan self.old self.new }
     {
         match self.first(row) {

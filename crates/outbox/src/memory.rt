@@ -15,6 +15,7 @@ pub struct RowValue {
 
 /// At most `size` bytes of text and at most `most` values. The memory is taken once, at opening, and text
 /// that was written is never moved: a transfer may still refer to it.
+// Vectors, and no map or strings: no memory is taken after opening, and a transfer names its text by place and length.
 #[derive(Drop)]
 pub struct RowMemory {
     text: Vec<u8>,
@@ -106,6 +107,7 @@ impl RowMemory {
         ensures { Written self.old row text.now result self.new }
     {
         let payload = self.room_for(text.len())?;
+        // It cannot fail: its memory was taken at opening.
         self.text.extend_from_slice(text).unwrap();
         self.values.push_reserved(RowValue { row, payload });
         Some(payload)

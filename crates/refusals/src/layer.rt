@@ -11,9 +11,8 @@ pub enum Layer {
 }
 
 impl Layer {
-    // A cast, as the states of sessions and deliveries have one: a trait for all three would only name it.
-
     /// The layer's number.
+    // A cast, as the states of sessions and deliveries have one: a trait for all three would only name it.
     pub fn number(self) -> u8
         ensures { result ≡ layer_number self }
     {

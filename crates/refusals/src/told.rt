@@ -30,6 +30,8 @@ impl Error {
     }
 }
 
+// Functions and no `From`: a whole error is told, and its parts in this file alone.
+
 fn of_state(e: SessionStateError) -> Told
     ensures { result ≡ tells (of_state e) }
 {

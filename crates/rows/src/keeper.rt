@@ -36,9 +36,8 @@ pub trait Keeper {
     fn settle(&mut self, row: Row) -> bool
         ensures { Settle stands settles self.old (key_of row) result self.new };
 
-    // A row and a state, and below a flow and a handle, go side by side in one call alone, and so have no struct.
-
     /// Changes the state of the row, and tells whether it was pending.
+    // A row and a state, and below a flow and a handle, go side by side in one call alone, and so have no struct.
     fn note(&mut self, row: Row, state: DeliveryState) -> bool
         ensures { Note stands self.old (key_of row) state result self.new };
 

@@ -5,10 +5,9 @@ ghost use Rattle.rows.specs.Reply.{echoed};
 use definitions::numbers::OutputHandle;
 use frames::link::LinkFlow;
 
-// Two keepers say of their `reply` what is said here: a keeper's caller sees its clauses alone.
-
 /// A flow that asks for an echo gets itself back, under the output handle and asking for none; another
 /// gets no answer.
+// Keepers repeat on their `reply` the trait's clause, and two of them the one here: their callers see their clauses alone.
 pub fn echo(flow: LinkFlow, handle: OutputHandle) -> Option<LinkFlow>
     ensures { result ≡ echoed flow handle }
 {

@@ -42,7 +42,7 @@ impl Row {
     }
 }
 
-// No derive: its equation would compare the lengths of the tags too, and a key has only their bytes.
+// No derive: its equation would speak of the lengths of tags, where contracts speak of keys, which have only the bytes.
 impl PartialEq for Row {
     ghost use Rattle.rows.specs.Keys.{key_of, same_key};
     ghost use Rattle.std.specs.Cmp.Rules.{comparing};

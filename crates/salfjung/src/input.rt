@@ -14,6 +14,7 @@ pub(crate) fn says_nothing(line: &[u8]) -> bool
 }
 
 /// The edit that a line says, or why it says none.
+// The reader of lines knows no outbox, so the edit is put together here.
 pub(crate) fn edit_of(line: &[u8]) -> Result<Edit<'_>, Unreadable> {
     let (row, Change { was, becomes }) = read_edit(line)?;
     Ok(Edit { row, was, becomes })

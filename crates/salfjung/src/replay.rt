@@ -46,7 +46,7 @@ pub(crate) fn run(rt: &HostRuntime) -> anyhow::Result<()> {
     Ok(())
 }
 
-/// What the lines of the input are sent by, and where they go.
+/// What sends the lines' edits and prints what went out.
 #[derive(Drop)]
 struct Replay<'rt, 'slots> {
     rt: &'rt HostRuntime,

@@ -10,6 +10,7 @@ pub(crate) struct Tally {
     refused: u64,
 }
 
+// A method for each count: a parameter that chose between the two would be no plainer.
 impl Tally {
     /// One edit more, which was sent.
     pub(crate) fn add_sent(&mut self)

@@ -35,6 +35,7 @@ pub struct Session<K> {
     remote_incoming_window: SequenceNo,
     links: Links,
     /// The deliveries that were sent and are not settled.
+    // A list and no map: an insert into a map may ask for memory, and no call after opening may.
     delivery_tag_by_id: Vec<Booked>,
     /// The transfers that wait for the peer's window.
     remote_incoming_window_exhausted_buffer: Backlog,

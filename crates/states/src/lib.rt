@@ -14,7 +14,7 @@
 //!
 //! - [`state`]: the seven states, with their numbers.
 //! - [`event`]: the six events, and what the table may say of one.
-//! - [`table`]: the table, six states by six events; looking an event up, and changing state by it.
+//! - [`table`]: the table, six states by six events; looking an event up, and the state machine beside it.
 //! - [`laws`]: what the table comes to, in the words of Part 2, sections 2.5.1 to 2.5.5.
 //!
 //! The table that a reader has to believe is in `specs/Table.antt`.

@@ -16,9 +16,8 @@ pub enum SessionState {
 }
 
 impl SessionState {
-    // A cast, as delivery states and layers have one: a trait for all three would only name it.
-
     /// The state's number.
+    // A cast, as delivery states and layers have one: a trait for all three would only name it.
     pub fn number(self) -> u8
         ensures { result ≡ state_number self }
     {

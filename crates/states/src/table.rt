@@ -70,10 +70,10 @@ impl SessionState {
         }
     }
 
-    // State and event are matched together, and the table is not asked again; both are held to one definition.
-
     /// Changes to the state that the event leads to, or stays where the table names none. The condition is
     /// that of our end.
+    // A rule of the project: state and event are matched together, as a state machine is read; the table beside it is
+    // data, and both are held to one definition. The condition stands beside the event, since events are columns.
     pub fn advance(&mut self, event: SessionEvent, condition: ErrorCondition)
         ensures { self.new ≡ next self.old event condition }
     {

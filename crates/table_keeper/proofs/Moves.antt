@@ -53,11 +53,11 @@ put s t k v u = record {
 pub not_pending : (s : TableKeeper) (k : Key) → position (is_of k) (slots_of s) ≡ None → is_pending (stand s k) ≡ false
 not_pending s k e = pending-held s k ∙ ap is_some (none k (slots_of s) e)
 
-pub free_from : (s : TableKeeper) (k : Key) → position (is_of k) (slots_of s) ≡ None → size s < 256 → is_free (stand s k) ≡ true
-free_from s k e h = grind (arith, none k (slots_of s) e)
+pub free_from : (s : TableKeeper) (k : Key) → held s k ≡ None → size s < 256 → is_free (stand s k) ≡ true
+free_from s k e h = grind (arith, e)
 
-pub full_from : (s : TableKeeper) (k : Key) → position (is_of k) (slots_of s) ≡ None → 256 ≤ size s → is_full (stand s k) ≡ true
-full_from s k e h = grind (arith, none k (slots_of s) e)
+pub full_from : (s : TableKeeper) (k : Key) → held s k ≡ None → 256 ≤ size s → is_full (stand s k) ≡ true
+full_from s k e h = grind (arith, e)
 
 -- A row that has a place is not held, and there is room.
 pub free_parts : (s : TableKeeper) (k : Key) → is_free (stand s k) ≡ true → (stand s k ≡ free) × (held s k ≡ None) × (size s < 256)

@@ -42,6 +42,7 @@ impl TableKeeper {
     pub fn state(&self, row: Row) -> Option<DeliveryState>
         ensures { result ≡ state_of (stand self.now (key_of row)) }
     {
+        // By place, since the proof of a chain by `find` does not close.
         self.find(row).map(|i| self.slots[i].state)
     }
 

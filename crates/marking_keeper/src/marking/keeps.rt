@@ -3,14 +3,14 @@
 //! Beside what the trait asks, each clause `marks` says what becomes of the records, exactly, and each
 //! clause `lent` that they are the ones that were lent, so that their owner knows them afterwards. No field of the
 //! keeper can say that, since it holds of the keeper before a call and after it.
-ghost use Rattle.std.specs.Prelude.{◌≡◌, true, map, is_ok, if◌then◌else◌, Some, None};
+ghost use Rattle.std.specs.Prelude.{◌≡◌, true, map, is_ok, Some, None};
 ghost use Rattle.definitions.specs.declared.numbers.DeliveryState.TheVariants.{None as NoState};
 ghost use Rattle.definitions.specs.LinkNumbers.{number_of};
 ghost use Rattle.rows.specs.Keys.{key_of};
 ghost use Rattle.rows.specs.Meaning.{standing, Same, Pledge, Settle, Note, Close};
 ghost use Rattle.rows.specs.Reply.{echoed};
-ghost use Rattle.marking_keeper.specs.Records.{remarked, closed_on};
-ghost use Rattle.marking_keeper.specs.Marking.{held, stand, Rule, Pledges, Settles, SameLoan};
+ghost use Rattle.marking_keeper.specs.Records.{closed_on};
+ghost use Rattle.marking_keeper.specs.Marking.{held, stand, Rule, Pledges, Settles, Remarks, SameLoan};
 ghost use Rattle.marking_keeper.specs.Restores;
 
 use super::MarkingKeeper;
@@ -44,9 +44,10 @@ impl<'a> Keeper for MarkingKeeper<'a> {
 
     fn pledge(&mut self, row: Row) -> Result<(), KeeperError>
         ensures keeps { Pledge stand Pledges self.old (key_of row) result self.new }
-        ensures marks { held self.new ≡ (if is_ok result then remarked (key_of row) (Some NoState) (held self.old) else held self.old) }
+        ensures marks { Remarks (key_of row) (Some NoState) (is_ok result) self.old self.new }
         ensures lent { SameLoan self.old self.new }
     {
+        // No `admit`: the place of the record is wanted too, and would be looked for twice.
         match self.first(row) {
             None => Err(KeeperError::NoPlace(row.link())),
             Some(i) if self.records[i].mark.is_some() => Err(KeeperError::RowOpen(row.link())),
@@ -59,7 +60,7 @@ impl<'a> Keeper for MarkingKeeper<'a> {
 
     fn settle(&mut self, row: Row) -> bool
         ensures keeps { Settle stand Settles self.old (key_of row) result self.new }
-        ensures marks { held self.new ≡ (if result then remarked (key_of row) None (held self.old) else held self.old) }
+        ensures marks { Remarks (key_of row) None result self.old self.new }
         ensures lent { SameLoan self.old self.new }
     {
         self.remark(row, None)
@@ -67,7 +68,7 @@ impl<'a> Keeper for MarkingKeeper<'a> {
 
     fn note(&mut self, row: Row, state: DeliveryState) -> bool
         ensures keeps { Note stand self.old (key_of row) state result self.new }
-        ensures marks { held self.new ≡ (if result then remarked (key_of row) (Some state) (held self.old) else held self.old) }
+        ensures marks { Remarks (key_of row) (Some state) result self.old self.new }
         ensures lent { SameLoan self.old self.new }
     {
         self.remark(row, Some(state))

@@ -1,5 +1,5 @@
 //! The begins of both sides.
-ghost use Rattle.std.specs.Prelude.{◌≡◌, [], Ok};
+ghost use Rattle.std.specs.Prelude.{[], Ok};
 ghost use Rattle.endpoint.specs.Calls.{done, our_begin, peer_begin};
 ghost use Rattle.endpoint.specs.Steps.{Tried};
 ghost use Rattle.session.specs.Queues.{no_queue};

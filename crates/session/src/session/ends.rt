@@ -60,6 +60,7 @@ impl<K: Keeper> Session<K> {
     }
 
     /// Why the session stopped, by its number, and the condition of the peer's end; both 0 before.
+    // A pair of numbers and no `Option`, since that is what a user is told.
     pub(crate) fn stop_reason(&self) -> (u8, ErrorCondition)
         ensures { result ≡ stop_pair (endpoint_of self.now).stop }
     {

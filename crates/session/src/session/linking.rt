@@ -1,5 +1,5 @@
 //! Links are allocated, deallocated and attached.
-ghost use Rattle.std.specs.Prelude.{◌≡◌, [], Ok};
+ghost use Rattle.std.specs.Prelude.{[], Ok};
 ghost use Rattle.endpoint.specs.Calls.{done, gave, was_used, allocate, deallocate, our_attach, peer_attach};
 ghost use Rattle.endpoint.specs.Objections.{name_fits};
 ghost use Rattle.endpoint.specs.Steps.{Tried};
@@ -27,7 +27,7 @@ impl<K: Keeper> Session<K> {
     ) -> Result<OutputHandle, SessionInnerError>
         ensures { Tried K.Keeper (view self.old) no_queue (allocate name link) (answered gave result) [] [] (view self.new) }
     {
-        fits(name)?;
+        check_name(name)?;
         let handle = self.links.allocate(name, link, LinkRelay::new_sender())?;
         Ok(handle)
     }
@@ -47,7 +47,7 @@ impl<K: Keeper> Session<K> {
     ) -> Result<(), SessionInnerError>
         ensures { OnWire K.Keeper (view self.old) wire.old (our_attach attach) (answered (λ _. done) result) (view self.new) wire.new }
     {
-        fits(attach.name)?;
+        check_name(attach.name)?;
         self.send(SessionFrameBody::Attach(attach), wire)
     }
 
@@ -59,7 +59,7 @@ impl<K: Keeper> Session<K> {
     ) -> Result<(), SessionInnerError>
         ensures { ToLinks K.Keeper (view self.old) items.old (peer_attach attach) (answered (λ _. done) result) (view self.new) items.new }
     {
-        fits(attach.name)?;
+        check_name(attach.name)?;
         let handle = InputHandle::from(attach.handle);
         let link = self.links.attachable(attach.name, handle)?;
         let frame = LinkFrame::Attach(attach);
@@ -74,7 +74,7 @@ impl<K: Keeper> Session<K> {
 }
 
 /// Refuses a name that has not 1 to 64 bytes.
-fn fits(name: Name) -> Result<(), SessionInnerError>
+fn check_name(name: Name) -> Result<(), SessionInnerError>
     ensures { Fits (name_fits name) result }
 {
     if name.len() == 0 || !name.fits() {

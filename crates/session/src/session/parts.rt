@@ -1,4 +1,4 @@
-//! The frames that a session makes.
+//! The frames that a session makes, and putting one on the wire.
 ghost use Rattle.std.specs.Prelude.{◌≡◌};
 ghost use Rattle.endpoint.specs.Frames.{on_channel, begin_body};
 ghost use Rattle.refusals.specs.declared.errors.SessionInnerError.TheVariants.{WireShort};

@@ -8,7 +8,7 @@ use Rattle.session.proofs.session.Session.on_incoming_attach.Goals as goal
 pub returns : goal.returns
 returns g c =
     let link = c.in_ok-link.link in
-    let fits = c.in_ok-fits.ensures in
+    let fits = c.in_ok-check_name.ensures in
     let found = c.in_ok-link.ensures in
     let told = c.in_ok-put.ensures in
     let same = c.from-handle.ensures in
