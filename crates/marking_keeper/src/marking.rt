@@ -13,7 +13,8 @@ pub struct MarkingKeeper<'a> {
 }
 
 impl<'a> MarkingKeeper<'a> {
-    ghost use Rattle.std.specs.Prelude.{◌≡◌, false, map, position};
+    ghost use Rattle.std.specs.Prelude.{◌≡◌, false, find, map, position};
+    ghost use Rattle.std.specs.Option.{option_map};
     ghost use Rattle.rows.specs.Keys.{Key, key_of};
     ghost use Rattle.rows.specs.Meaning.{is_pending, state_of};
     ghost use Rattle.marking_keeper.specs.Records.{naming, unmarked};
@@ -51,8 +52,14 @@ impl<'a> MarkingKeeper<'a> {
     pub fn state(&self, row: Row) -> Option<DeliveryState>
         ensures { result ≡ state_of (stand self.now (key_of row)) }
     {
-        // By place, since the proof of a chain by `find` does not close.
-        self.first(row).and_then(|i| self.records[i].mark)
+        self.named(row).and_then(|record| record.mark)
+    }
+
+    /// The first record that names the row.
+    fn named(&self, row: Row) -> Option<&Record>
+        ensures { option_map (λ x. x.now) result ≡ find (naming (key_of row)) (held self.now) }
+    {
+        self.records.iter().find(|record| record.names(row))
     }
 
     /// The place of the first record that names the row.

@@ -20,9 +20,6 @@ state-stood None false = refl
 state-held : (s : TableKeeper) (k : Key) → state_of (stand s k) ≡ held s k
 state-held s k = state-stood (held s k) _
 
-pub state_nowhere : (s : TableKeeper) (k : Key) → position (is_of k) (slots_of s) ≡ None → state_of (stand s k) ≡ None
-state_nowhere s k e = state-held s k ∙ none k (slots_of s) e
-
 pub state_found : (s : TableKeeper) (k : Key) (i : ℕ) (d : PendingRow) → position (is_of k) (slots_of s) ≡ Some i → state_of (stand s k) ≡ Some (get_or (slots_of s) i d).state
 state_found s k i d e = state-held s k ∙ (found k (slots_of s) i d e).2
 

@@ -28,7 +28,7 @@ impl TableKeeper {
     ghost use Rattle.rows.specs.Meaning.{free, state_of};
     ghost use Rattle.table_keeper.specs.Counts.{Counts};
     ghost use Rattle.table_keeper.specs.Slots.{is_of};
-    ghost use Rattle.table_keeper.specs.Table.{slots_of, stand};
+    ghost use Rattle.table_keeper.specs.Table.{held, slots_of, stand};
 
     /// A table in which nothing is pending, or an error where there is no memory for 256 rows.
     pub fn new(heap: Global) -> Result<TableKeeper, AllocError>
@@ -42,8 +42,17 @@ impl TableKeeper {
     pub fn state(&self, row: Row) -> Option<DeliveryState>
         ensures { result ≡ state_of (stand self.now (key_of row)) }
     {
-        // By place, since the proof of a chain by `find` does not close.
-        self.find(row).map(|i| self.slots[i].state)
+        self.held(row)
+    }
+
+    /// What is held of the row.
+    fn held(&self, row: Row) -> Option<DeliveryState>
+        ensures { result ≡ held self.now (key_of row) }
+    {
+        self.slots
+            .iter()
+            .find(|slot| slot.row == row)
+            .map(|slot| slot.state)
     }
 
     /// How many rows are pending.

@@ -35,6 +35,7 @@ impl<'a> Keeper for MarkingKeeper<'a> {
         ensures stands { (standing result).given (stand self.now (key_of row)) ≡ true }
         ensures place { Rule (key_of row) (held self.now) result }
     {
+        // By place, as the rule of places has it.
         match self.first(row).map(|i| self.records[i].mark) {
             Some(Some(_)) => Standing::Pending,
             Some(None) => Standing::Place,

@@ -30,7 +30,7 @@ impl Keeper for TableKeeper {
         ensures stands { (standing result).given (stand self.now (key_of row)) ≡ true }
         ensures places { (n : ℕ) → Counts (stand self.now) n → result ≡ answered (stand self.now (key_of row)) n }
     {
-        match self.find(row) {
+        match self.held(row) {
             Some(_) => Standing::Pending,
             None if self.slots.len() < PLACES => Standing::Place,
             None => Standing::Neither,
