@@ -24,6 +24,7 @@ pub enum Part {
 /// The transfers that wait, the oldest first, and how many places of the book are kept for them.
 #[derive(Drop)]
 pub struct Backlog {
+    // A list whose memory is taken at opening, and no `VecDeque` that grows: no call after opening may ask for memory.
     pub waiting: Vec<Waiting>,
     // A number of its own beside the list: else each transfer that is submitted would count all that wait.
     pub reserved: usize,

@@ -10,6 +10,7 @@ use lines::Line;
 use rows::row::Row;
 
 /// A value before and after an edit.
+// Not the outbox's `Edit`, which has the same two texts: the reader of lines knows no outbox.
 #[derive(Clone, Copy)]
 pub struct Change<'a> {
     pub was: &'a [u8],
