@@ -19,9 +19,12 @@ abbrev pub later_words : List ℕ → List (List ℕ)
 later_words [] = []
 later_words (c ∷ cs) = cond (c == 32) (first_word cs ∷ later_words cs) (later_words cs)
 
+abbrev pub text_of : Line → List ℕ
+text_of line = line.text.now
+
 -- the words of a line after its verb
 abbrev pub words_after : Line → List (List ℕ)
-words_after line = later_words line.text.now
+words_after line = later_words (text_of line)
 
 -- the words that are still to come
 abbrev pub words_left : Words → List (List ℕ)

@@ -14,7 +14,7 @@
 
 ghost use Rattle.std.specs.Prelude.{◌≡◌};
 ghost use Rattle.std.specs.Option.{option_map};
-ghost use Rattle.lines.specs.Words.{first_word, later_words, words_after, value_in, among, stray};
+ghost use Rattle.lines.specs.Words.{text_of, first_word, later_words, words_after, value_in, among, stray};
 
 mod words;
 
@@ -29,14 +29,14 @@ pub struct Line<'a> {
 impl<'a> Line<'a> {
     /// The line with that text.
     pub fn new(text: &'a [u8]) -> Line<'a>
-        ensures { result.text.now ≡ text.now }
+        ensures { text_of result ≡ text.now }
     {
         Line { text }
     }
 
     /// The first word.
     pub fn verb(&self) -> &'a [u8]
-        ensures { result.now ≡ first_word self.now.text.now }
+        ensures { result.now ≡ first_word (text_of self.now) }
     {
         cut(self.text).0
     }
