@@ -4,9 +4,9 @@
 //! and of each edit that is refused, with its line number. At the end it prints every frame on the wire
 //! queue, how each row stands, and how many edits there were.
 //!
-//! What the program decides is decided in the crates `edit_lines` and `outbox`. Here are what a line of the
-//! input says (`input`), the run over its lines (`replay`), the count of the edits (`tally`) and how things
-//! look in print (`print`).
+//! What the program decides is decided in the crates `edit_lines` and `outbox`. Here are the lines of the
+//! input and what each says (`input`), the run over them (`replay`), the count of the edits (`tally`) and how
+//! things look in print (`print`).
 
 #![tactic(auto)]
 
