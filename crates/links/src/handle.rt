@@ -15,9 +15,10 @@ pub struct HandleEntry {
 
 impl HandleEntry {
     /// Whether the handle is in use by the name.
-    pub(crate) fn bears(&self, name: Name) -> bool
-        ensures { result ≡ bears_name name self.now }
+    pub(crate) fn bears(&self, name: &Name) -> bool
+        ensures { result ≡ bears_name name.now self.now }
     {
-        self.name == Some(name)
+        // Not `self.name == Some(*name)`, which makes a copy of the name for each entry, vacant ones too.
+        matches!(&self.name, Some(own) if own == name)
     }
 }

@@ -60,7 +60,7 @@ impl HandleTable {
     {
         self.entries
             .iter()
-            .position(|entry| entry.bears(name))
+            .position(|entry| entry.bears(&name))
             .map(|h| OutputHandle(h as u32))
     }
 
@@ -68,7 +68,7 @@ impl HandleTable {
     pub fn has(&self, name: Name) -> bool
         ensures { result ≡ list_any (bears_name name) (entries_of self.now) }
     {
-        self.entries.iter().any(|entry| entry.bears(name))
+        self.entries.iter().any(|entry| entry.bears(&name))
     }
 
     /// Whether 64 handles are in use.

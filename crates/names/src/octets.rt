@@ -52,7 +52,8 @@ impl<const N: usize> Octets<N> {
     pub fn as_slice(&self) -> &[u8]
         ensures { result.now ≡ bytes_in self.now }
     {
-        self.bytes.get(..self.len).unwrap_or(&[])
+        // None of its own bytes, and not `&[]`: a comparison would have to choose between two places for each byte string.
+        self.bytes.get(..self.len).unwrap_or(&self.bytes[..0])
     }
 }
 

@@ -84,9 +84,9 @@ impl SessionState {
             | (SessionState::BeginReceived, SessionEvent::OurBegin) => SessionState::Mapped,
             (SessionState::Mapped, SessionEvent::OurEnd) if condition == 0 => SessionState::EndSent,
             (SessionState::Mapped, SessionEvent::OurEnd) => SessionState::Discarding,
-            (SessionState::Unmapped, SessionEvent::PeerEnd) => SessionState::Unmapped,
+            (SessionState::Unmapped, SessionEvent::PeerEnd) => return,
             (_, SessionEvent::PeerEnd) => SessionState::Stopped,
-            (state, _) => state,
+            _ => return,
         };
     }
 }
