@@ -4,11 +4,11 @@
 //! hexadecimal) on link 3 changes from `12` to `10`. The four keys may stand in any order.
 //!
 //! - [`unreadable`]: why a line is no edit.
-//! - `fields`: the four fields of a line.
+//! - [`fields`]: the four fields of a line.
 //! - [`read`]: the whole line. What it reads is in `specs/Reading.antt`.
 
 #![tactic(auto)]
 
-mod fields;
+pub mod fields;
 pub mod read;
 pub mod unreadable;
