@@ -1,17 +1,23 @@
 -- The bytes of a text of hexadecimal digits, by its pairs.
-use Rattle.std.proofs.Common.{◌≡◌, ℕ, suc, ◌+◌, ◌/◌, ◌%◌, ◌<◌, ◌≤◌, min, true, false, ◌&&◌, cond, eqb, List, [], ◌∷◌, ◌++◌, length, map, get_or, take, drop, set, is_some, Some, None, Option, unwrap_or, sym, refl, ap, ◌∙◌, arith, option_map, ⊎_elim, append_assoc, append-nil, take-append-drop, drop-set-lt}
+use Rattle.std.proofs.Common.{◌≡◌, ℕ, suc, ◌+◌, ◌-◌, ◌/◌, ◌%◌, ◌<◌, ◌≤◌, min, true, false, ◌&&◌, cond, eqb, List, [], ◌∷◌, ◌++◌, length, map, get_or, take, drop, set, is_some, Some, None, Option, unwrap_or, sym, refl, ap, ◌∙◌, arith, option_map, ⊎_elim, append_assoc, append-nil, take-append-drop, drop-set-lt}
+use Rattle.std.specs.Int.{is_in_range}
 use Rattle.std.specs.Simd.{first_chunks}
 use Rattle.std.specs.Option.{option_zip}
 use Rattle.std.specs.List.{list_all}
 use Rattle.std.proofs.lemmas.List.{drop_more, drop_all, take_all, take_more_set}
 use Rattle.std.proofs.lemmas.Bool.{cases_lt, cond-true, cond-false, eq-eqb, ne_eqb}
-use Rattle.digits.specs.Numbers.{octet, octet_of, byte_of, hexadecimal, laid}
+use Rattle.std.proofs.lemmas.Bool.Decides.{nat_tests}
+use Rattle.digits.specs.Numbers.{nibble, octet, octet_of, byte_of, hexadecimal, laid}
+
+-- a digit is in one of three ranges
+pub nibble-ranges : (c : ℕ) → nibble c ≡ cond (is_in_range 48 57 c) (Some (c - 48)) (cond (is_in_range 65 70 c) (Some (c - 65 + 10)) (cond (is_in_range 97 102 c) (Some (c - 97 + 10)) None))
+nibble-ranges c = grind (arith, nat_tests)
 
 -- the bytes of pairs, where each writes one
 abbrev pub octets : List (List ℕ) → Option (List ℕ)
 octets pairs = cond (list_all (λ pair. is_some (octet_of pair)) pairs) (Some (map byte_of pairs)) None
 
-abbrev join : Option ℕ → Option (List ℕ) → Option (List ℕ)
+abbrev pub join : Option ℕ → Option (List ℕ) → Option (List ℕ)
 join b bs = option_map (λ p. p.0 ∷ p.1) (option_zip b bs)
 
 join-none : (b : Option ℕ) → join b None ≡ None
@@ -60,7 +66,7 @@ lay_more pairs last out i b h inside e l =
     ap (λ ps. laid (map byte_of ps) (drop i out)) here ∙ ap (laid (map byte_of (get_or pairs i [] ∷ drop (i + 1) pairs))) place ∙ ap (λ x. x ∷ laid (map byte_of (drop (i + 1) pairs)) (drop (i + 1) out)) byte in
     cc
 
-laid_nowhere : (bs : List ℕ) → laid bs [] ≡ []
+pub laid_nowhere : (bs : List ℕ) → laid bs [] ≡ []
 laid_nowhere [] = refl
 laid_nowhere (b ∷ bs) = refl
 

@@ -1,7 +1,7 @@
 -- The handles in the order in which a new table gives them, the last first.
-use Rattle.std.proofs.Common.{◌≡◌, ℕ, zero, suc, ◌-◌, ◌<◌, ◌≤◌, List, ◌∷◌, ◌++◌, length, get_or, replicate, ap, sym, subst, ◌∙◌, le_of_suc-le-suc, not-suc-le-zero, arith}
+use Rattle.std.proofs.Common.{◌≡◌, ℕ, zero, suc, ◌+◌, ◌-◌, ◌<◌, ◌≤◌, List, [], ◌∷◌, ◌++◌, length, get_or, take, replicate, ap, sym, subst, ◌∙◌, le_of_suc-le-suc, not-suc-le-zero, arith}
 use Rattle.std.specs.List.{All}
-use Rattle.std.proofs.lemmas.List.{append-nil, get_or-replicate}
+use Rattle.std.proofs.lemmas.List.{append-nil, get_or-replicate, take_more}
 use Rattle.definitions.specs.declared.numbers.OutputHandle.{OutputHandle}
 use Rattle.links.specs.Handles.{unused, in_use, IsVacant, countdown}
 use Rattle.links.proofs.Handles.{Once}
@@ -16,6 +16,10 @@ at : (n i : ℕ) (d : OutputHandle) → i < n → (get_or (countdown n) i d).0 �
 at zero i d h = absurd (not-suc-le-zero h)
 at (suc n) zero d h = omega arith
 at (suc n) (suc i) d h = at n i d (le_of_suc-le-suc h) ∙ omega arith
+
+-- One more of the 64.
+pub one_more : (i : ℕ) (h : OutputHandle) → i < 64 → h.0 ≡ 63 - i → take (i + 1) (countdown 64) ≡ take i (countdown 64) ++ h ∷ []
+one_more i h l e = take_more (countdown 64) i h l ∙ ap (λ m. take i (countdown 64) ++ record { 0 = m } ∷ []) (at 64 i h l ∙ sym e)
 
 -- Where no handle is in use, each of them is vacant, and none is there twice.
 module _ (hs : List OutputHandle) (n : ℕ) (none : n ≤ 0) (all : hs ++ countdown n ≡ countdown 64) where

@@ -1,5 +1,5 @@
 -- The facts that a handle table keeps, when a handle is given or freed.
-use Rattle.std.proofs.Common.{◌≡◌, ◌≢◌, ℕ, ◌+◌, ◌<◌, true, false, cond, List, [], ◌∷◌, ◌++◌, length, set, get_or, Some, None, Option, refl, ap, ◌∙◌, subst, arith, rules}
+use Rattle.std.proofs.Common.{◌≡◌, ◌≢◌, ℕ, ◌+◌, ◌<◌, true, false, cond, List, [], ◌∷◌, ◌++◌, length, set, get_or, option_to_list, Some, None, Option, sym, refl, ap, ◌∙◌, subst, arith, rules}
 use Rattle.std.specs.Cmp.{IsEquivalence}
 use Rattle.std.specs.Cmp.Rules.{comparing}
 use Rattle.std.specs.List.{All, AllPairs, list_any}
@@ -14,6 +14,7 @@ use Rattle.names.specs.Octets.{same_octets}
 use Rattle.definitions.specs.declared.numbers.OutputHandle.{OutputHandle}
 use Rattle.links.specs.declared.handle.HandleEntry.{HandleEntry}
 use Rattle.links.specs.Handles.{unused, handle_at, in_use, bears_name, used_in, restated, IsVacant, same_name}
+use Rattle.links.proofs.Tables.{count_some}
 
 -- No handle is there twice; no name is in use twice.
 abbrev pub Once : List OutputHandle → Type 0
@@ -33,6 +34,17 @@ flip_names e f = go e.name f.name
     go None (Some n) = refl
     go (Some m) None = refl
     go (Some m) (Some n) = names_equal.symm n m
+
+-- What was popped stood last.
+pub popped : {X : Type 0} (vs us : List X) (o : Option X) (h : X) → vs ≡ us ++ option_to_list o → o ≡ Some h → vs ≡ us ++ h ∷ []
+popped vs us o h p q = p ∙ ap (λ x. us ++ option_to_list x) q
+
+pub popped_len : {X : Type 0} (m n : ℕ) (o : Option X) (h : X) → m + length (option_to_list o) ≡ n → o ≡ Some h → m + 1 ≡ n
+popped_len m n o h p q = ap (λ x. m + length (option_to_list x)) (sym q) ∙ p
+
+-- A handle in use is one of the table's.
+pub used_below : (es : List HandleEntry) (h : ℕ) → length es ≡ 64 → in_use (handle_at es h) ≡ true → h < 64
+used_below es h w u = grind (arith, get_or_past es h unused)
 
 -- One handle stands otherwise.
 module _ (es : List HandleEntry) (h : OutputHandle) (e : HandleEntry) where
@@ -78,28 +90,31 @@ module _ (es : List HandleEntry) (whole : length es ≡ 64) (h : OutputHandle) (
       (λ k d l. false_from_ne_true _ (λ t. both_ways (list_any (bears_name name) es) unnamed (list_any_at (bears_name name) es k d l t)))
 
 -- A handle in use is freed, and becomes the last of the vacant ones.
-module _ (es : List HandleEntry) (whole : length es ≡ 64) (h : OutputHandle) (used : in_use (handle_at es h.0) ≡ true) (vs : List OutputHandle) (idle : All (IsVacant es) vs) where
+module _ (es : List HandleEntry) (whole : length es ≡ 64) (h : OutputHandle) (used : in_use (handle_at es h.0) ≡ true) where
   abbrev free : HandleEntry
   free = restated None (handle_at es h.0)
 
-  -- a handle beyond the table is not in use
   below : h.0 < 64
-  below = grind (arith, get_or_past es h.0 unused)
-
-  other : All (λ g. g.0 ≢ h.0) vs
-  other k d l e = both_ways (in_use (handle_at es h.0)) (subst (λ n. in_use (handle_at es n) ≡ false) e (idle k d l).1) used
+  below = used_below es h.0 whole used
 
   pub free_tally : used_in (set es h.0 free) + 1 ≡ used_in es
   free_tally = omega (arith, rw used at (tally es h free (rw whole below)))
 
-  pub free_idle : All (IsVacant (set es h.0 free)) (vs ++ h ∷ [])
-  free_idle =
-      All-push (IsVacant (set es h.0 free)) vs h
-      (λ k d l. other_vacant es h free (get_or vs k d) (idle k d l) (other k d l))
-      (below, ap in_use (get_or-set_same es h.0 free unused (rw whole below)))
-
-  pub free_once : Once vs → Once (vs ++ h ∷ [])
-  free_once once = all_pairs_push (λ g k. g.0 ≢ k.0) vs h once other
+  pub free_some : 0 < used_in es
+  free_some = count_some in_use es h.0 unused (rw whole below) used
 
   pub free_distinct : Distinct es → Distinct (set es h.0 free)
   free_distinct distinct = still_distinct es h free distinct (λ k d l. refl)
+
+  module _ (vs : List OutputHandle) (idle : All (IsVacant es) vs) where
+    other : All (λ g. g.0 ≢ h.0) vs
+    other k d l e = both_ways (in_use (handle_at es h.0)) (subst (λ n. in_use (handle_at es n) ≡ false) e (idle k d l).1) used
+
+    pub free_idle : All (IsVacant (set es h.0 free)) (vs ++ h ∷ [])
+    free_idle =
+        All-push (IsVacant (set es h.0 free)) vs h
+        (λ k d l. other_vacant es h free (get_or vs k d) (idle k d l) (other k d l))
+        (below, ap in_use (get_or-set_same es h.0 free unused (rw whole below)))
+
+    pub free_once : Once vs → Once (vs ++ h ∷ [])
+    free_once once = all_pairs_push (λ g k. g.0 ≢ k.0) vs h once other

@@ -1,2 +1,3 @@
 mod Countdown
 mod Handles
+pub mod Tables

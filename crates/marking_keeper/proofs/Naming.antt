@@ -1,10 +1,17 @@
 -- Which rows records name.
-use Rattle.std.proofs.Common.{◌≡◌, ◌≢◌, ℕ, true, false, ◌&&◌, leb, sym, ap, ◌∙◌, ⊎_elim, arith}
+use Rattle.std.proofs.Common.{◌≡◌, ◌≢◌, ℕ, ◌≤◌, true, false, ◌&&◌, leb, sym, ap, ◌∙◌, ⊎_elim, arith}
+use Rattle.std.specs.Str.{bytes_eq}
 use Rattle.std.proofs.lemmas.Bool.{and_parts, cases_Bool}
+use Rattle.std.proofs.lemmas.Bool.Decides.{nat_tests}
+use Rattle.names.specs.Octets.{bytes_in}
 use Rattle.rows.specs.Keys.{Key, same_key}
 use Rattle.rows.proofs.Keys.{same_key-Decides}
 use Rattle.marking_keeper.specs.declared.record.Record.{Record}
 use Rattle.marking_keeper.specs.Records.{key_in, naming, closed_on}
+
+-- where all else agrees, the bytes decide
+pub naming-bytes : (k : Key) (x : Record) → k.link ≤ 63 → x.tag.len ≤ 32 → x.link ≡ k.link → naming k x ≡ bytes_eq (bytes_in x.tag) k.tag
+naming-bytes k x few fits e = grind (arith, nat_tests)
 
 -- a record that names a row has its key
 naming_key : (k : Key) (x : Record) → naming k x ≡ true → key_in x ≡ k

@@ -3,7 +3,7 @@ use Rattle.std.proofs.Common.{◌≡◌, ◌≢◌, ℕ, true, false, eqb, ◌�
 use Rattle.std.specs.Bool.{Decides}
 use Rattle.std.specs.Cmp.{IsEquivalence, decided}
 use Rattle.std.specs.Str.{bytes_eq}
-use Rattle.std.proofs.lemmas.Bool.{cases_Bool}
+use Rattle.std.proofs.lemmas.Bool.{cases_Bool, false_from_ne_true}
 use Rattle.std.proofs.lemmas.Bool.Decides.{Decides-and, Decides-eqb, Decides-like, not_from_Decides}
 use Rattle.std.proofs.lemmas.Slice.Eq.{bytes_eq-Decides}
 use Rattle.rows.specs.Keys.{Key, same_key}
@@ -26,3 +26,7 @@ same_key_tells j k =
 
 pub same_key-laws : IsEquivalence same_key
 same_key-laws = decided same_key same_key-Decides
+
+-- keys that are not one
+pub apart-false : (j k : Key) → (j ≢ k) → same_key j k ≡ false
+apart-false j k n = false_from_ne_true (same_key j k) (λ t. n ((same_key-Decides j k).0 t))

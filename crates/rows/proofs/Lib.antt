@@ -1,2 +1,4 @@
 pub mod Finds
 pub mod Keys
+pub mod Distinct
+pub mod Rows

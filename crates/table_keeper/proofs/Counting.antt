@@ -1,24 +1,22 @@
 -- The slots of a table count its pending rows, and so decide what `ask` answers.
 use Rattle.std.proofs.Common.{◌≡◌, ℕ, true, sym, ◌∙◌, arith}
 use Rattle.std.proofs.lemmas.List.{length-map}
-use Rattle.std.proofs.lemmas.Map.Made.{IsDistinct-from_AllPairs, length-from_same_keys}
 use Rattle.rows.specs.declared.answers.Standing.{Standing}
 use Rattle.rows.specs.Keys.{Key}
 use Rattle.rows.specs.Meaning.{standing}
-use Rattle.rows.proofs.Keys.{same_key-Decides, same_key-laws}
+use Rattle.rows.proofs.Distinct.{same_length}
 use Rattle.table_keeper.specs.declared.table.TableKeeper.{TableKeeper}
 use Rattle.table_keeper.specs.Counts.{Counts, answered}
 use Rattle.table_keeper.specs.Slots.{key_in, keys_in}
 use Rattle.table_keeper.specs.Table.{slots_of, size, stand}
-use Rattle.table_keeper.proofs.Moves.{pending-held}
-use Rattle.table_keeper.proofs.Slots.{member_is}
+use Rattle.table_keeper.proofs.Moves.{pending-has}
 
 -- There are as many pending rows as slots,
 pub counted : (s : TableKeeper) → Counts (stand s) (size s)
 counted s = record {
   keys = keys_in (slots_of s);
   apart = s.apart;
-  exact = λ k. member_is k (slots_of s) ∙ sym (pending-held s k);
+  exact = λ k. sym (pending-has s k);
   long = length-map (slots_of s) key_in ∙ sym s.slots.ok.0;
 }
 
@@ -26,12 +24,7 @@ counted s = record {
 pub count_is : (s : TableKeeper) (n : ℕ) → Counts (stand s) n → n ≡ size s
 count_is s n c =
     let m = counted s in
-    sym c.long
-    ∙ length-from_same_keys same_key-laws c.keys m.keys
-    (IsDistinct-from_AllPairs same_key-Decides c.keys c.apart)
-    (IsDistinct-from_AllPairs same_key-Decides m.keys m.apart)
-    (λ k. c.exact k ∙ sym (m.exact k))
-    ∙ m.long
+    sym c.long ∙ same_length c.keys m.keys c.apart m.apart (λ k. c.exact k ∙ sym (m.exact k)) ∙ m.long
 
 -- what `ask` ensures of its answer
 abbrev pub Told : TableKeeper → Key → Standing → Type 0

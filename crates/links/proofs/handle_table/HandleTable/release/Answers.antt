@@ -12,8 +12,8 @@ invariant_of-self c =
     record {
       whole = length-set es h.0 _ ∙ s.whole;
       reserved = omega arith;
-      tally = omega (arith, free_tally es s.whole h c.requires vs s.idle);
+      tally = omega (arith, free_tally es s.whole h c.requires);
       idle = rw c.push_reserved.ensures.items (free_idle es s.whole h c.requires vs s.idle);
       once = rw c.push_reserved.ensures.items (free_once es s.whole h c.requires vs s.idle s.once);
-      distinct = free_distinct es s.whole h c.requires vs s.idle s.distinct;
+      distinct = free_distinct es s.whole h c.requires s.distinct;
     }
