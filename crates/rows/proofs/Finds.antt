@@ -1,11 +1,11 @@
 -- What is found in a list, and at which place.
-use Rattle.std.proofs.Common.{◌≡◌, ℕ, ◌<◌, Bool, true, false, List, [], ◌∷◌, length, get_or, Some, None, sym, refl, ap, ◌∙◌, ⊎_elim, arith}
+use Rattle.std.proofs.Common.{◌≡◌, ℕ, ◌<◌, ◌≤◌, Bool, true, false, List, [], ◌∷◌, length, get_or, Some, None, sym, refl, ap, ◌∙◌, ⊎_elim, arith}
 use Rattle.std.specs.List.{All, find, position, position_or_len, slice_get}
 use Rattle.std.proofs.lemmas.Bool.{cond-true, lt-ltb}
 use Rattle.std.proofs.lemmas.Grind.{common_steps}
 use Rattle.std.proofs.lemmas.List.Elements.{All-head, All-tail}
 use Rattle.std.proofs.lemmas.List.Folds.{find_at}
-use Rattle.std.proofs.lemmas.List.Sums.{position_or_len_is}
+use Rattle.std.proofs.lemmas.List.Sums.{fails_before_first, position_or_len_is}
 use Rattle.std.proofs.lemmas.Option.{gets, slice_get_cases}
 
 module _ {X : Type 0} (test : X → Bool) where
@@ -31,6 +31,18 @@ module _ {X : Type 0} (test : X → Bool) where
   find_first xs i e =
       let p = at_position xs i e in
       ⊎_elim (λ c. (c.0, c.2, find_at test xs ∙ ap (slice_get xs) (sym p.0) ∙ c.2)) (λ c. absurd (omega arith)) (slice_get_cases xs i).1
+
+  -- There is no such place exactly where none passes.
+  pub position-None : (xs : List X) → position test xs ≡ None → All (λ x. test x ≡ false) xs
+  position-None xs e i d h =
+      let beyond : length xs ≤ position_or_len test xs = grind (arith, common_steps) in
+      fails_before_first test xs i d (omega arith)
+
+  pub position_none : (xs : List X) → All (λ x. test x ≡ false) xs → position test xs ≡ None
+  position_none [] h = refl
+  position_none (x ∷ xs) h =
+      let e : position_or_len test (x ∷ xs) ≡ length (x ∷ xs) = position_or_len_is test (x ∷ xs) (length (x ∷ xs)) x (omega arith) (λ k l. h k x l) (λ l. absurd (omega arith)) in
+      grind (arith, common_steps, e)
 
   -- Where none passes nothing is found.
   pub find_none : (xs : List X) → All (λ x. test x ≡ false) xs → find test xs ≡ None

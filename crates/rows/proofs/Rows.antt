@@ -96,6 +96,12 @@ module _ {X V : Type 0} (key : X → Key) (value : X → V) where
   abbrev pub lookup : Key → List X → Option V
   lookup k xs = option_map value (find (is_of key k) xs)
 
+  pub lookup-nil : (k : Key) → lookup k [] ≡ None
+  lookup-nil k = grind arith
+
+  pub lookup-cons : (k : Key) (x : X) (xs : List X) → lookup k (x ∷ xs) ≡ cond (same_key k (key x)) (Some (value x)) (lookup k xs)
+  lookup-cons k x xs = grind (arith, same_key-laws.symm k (key x))
+
   -- A value is found exactly of the rows that are in the list,
   pub lookup-has : (k : Key) (xs : List X) → is_some (lookup k xs) ≡ is_member same_key (map key xs) k
   lookup-has k [] = grind arith
